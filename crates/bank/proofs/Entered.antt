@@ -14,6 +14,7 @@ use Rattle.bank_rows.specs.State.{bankOf, StoredWith}
 use Rattle.bank_sound.specs.Sound.{isSound}
 use Rattle.bank_sound.proofs.Test.{sound-laid}
 use Rattle.bank_verdicts.specs.declared.verdict.Verdict.{Verdict}
+use Rattle.bank_verdicts.specs.declared.verdict.Verdict.the-variants as verdict
 use Rattle.bank_verdicts.specs.Judgement.{judge}
 use Rattle.bank_steps.specs.Lent.{Lent, stateOf}
 use Rattle.journal.specs.declared.event.Entry.{Entry}
@@ -22,7 +23,7 @@ use Rattle.bank_events.specs.Entries.{Holds, dropEntry, droppedUploads, verdict
 use Rattle.bank.specs.declared.call.FrameAnswer.{FrameAnswer}
 use Rattle.bank.specs.declared.call.FrameAnswer.the-variants.{Reply}
 use Rattle.bank.specs.declared.call.FrameOut.{FrameOut}
-use Rattle.bank.specs.Call.{respond, FrameInput, contextOf}
+use Rattle.bank.specs.Call.{respond, FrameInput, contextOf, callVerdict, verdictBy}
 use Rattle.bank.specs.Journal.{clockBy, requestEntries, enteredBy, ifAnswered}
 use Rattle.bank.specs.Lent.{noReply}
 use Rattle.bank.proofs.Lent.{advanced-back}
@@ -38,10 +39,19 @@ pub none-entered : {o : FrameOut} {batch : Batch} → o ≡ noReply → Holds ba
     → Holds batch (ifAnswered (o .answer) es)
 none-entered e h es = rw e h
 
+-- and has no verdict
+pub none-judged : {o : FrameOut} {x : Verdict} → o ≡ noReply → x ≡ verdict.Unreadable → (v : Verdict)
+    → x ≡ verdictBy (o .answer) v
+none-judged e f v = rw e f
+
 -- a reply leaves the events
 pub answered-entered : {a : FrameAnswer} {n : ℕ} {batch : Batch} {es : List Entry} → a ≡ Reply n → Holds batch es
     → Holds batch (ifAnswered a es)
 answered-entered e h = rw e h
+
+-- and the verdict
+pub answered-judged : {a : FrameAnswer} {n : ℕ} {x v : Verdict} → a ≡ Reply n → x ≡ v → x ≡ verdictBy a v
+answered-judged e f = rw e f
 
 -- the whole call
 pub frame-entered : (m : Lent) (a : FrameInput) → isSound (m .rows) ≡ true → (t p : List ℕ)
@@ -58,3 +68,12 @@ frame-entered m a sound t p e x y z f =
       z,
       advanced-back (m .rows) (m .orders) (m .mailboxes) (sound-laid (m .rows) sound) (a .time) t p e,
     )
+
+-- its verdict is that on the bank after the clock and its drops
+pub frame-judged : (m : Lent) (a : FrameInput) → isSound (m .rows) ≡ true → (t p : List ℕ)
+    → StoredWith (advanced (a .time) (stateOf m)) (m .rows) t p
+    → {context : Context} {q : Fields} {d : List ℕ} → context ≡ contextOf a → q ≡ readRequest (a .frame)
+    → d ≡ dataOf (a .frame) → judge context (bankOf t) q (length d) ≡ callVerdict (stateOf m) a
+unfolding respond
+frame-judged m a sound t p e x y z =
+    rw (x, y, z, advanced-back (m .rows) (m .orders) (m .mailboxes) (sound-laid (m .rows) sound) (a .time) t p e)

@@ -22,6 +22,7 @@ use Rattle.bank_state.specs.State.{BankState, fileLength}
 use Rattle.bank_state.specs.Store.{fileOf}
 use Rattle.bank_verdicts.specs.declared.verdict.Context.{Context}
 use Rattle.bank_verdicts.specs.declared.verdict.Verdict.{Verdict}
+use Rattle.bank_verdicts.specs.declared.verdict.Verdict.the-variants as verdict
 use Rattle.bank_verdicts.specs.Judgement.{judge}
 use Rattle.bank_verdicts.specs.Replies.{replyTo, segmentIn}
 use Rattle.bank_steps.specs.Steps.{carryOut}
@@ -161,3 +162,13 @@ frameCall w a =
     (replied (respond (contextOf a) (advanced (a .time) w) (readRequest (a .frame)) (dataOf (a .frame)))
     (a .buffer))
     (frameRefused w a)
+
+-- the verdict on the request of a frame call, with the bank before the call
+abbrev pub callVerdict : BankState → FrameInput → Verdict
+callVerdict w a =
+    respond (contextOf a) (advanced (a .time) w) (readRequest (a .frame)) (dataOf (a .frame)) .verdict
+
+-- a call given number 1 has none: one that does nothing stands for it
+abbrev pub verdictBy : FrameAnswer → Verdict → Verdict
+verdictBy (Reply n) v = v
+verdictBy WrongLength v = verdict.Unreadable

@@ -4,7 +4,6 @@ use mathlib.Core.List.{List, []}
 use lib.ListN.{length}
 use Rattle.frame_table.specs.declared.fields.Fields.{Fields}
 use Rattle.frame_reader.specs.Reader.{readRequest}
-use Rattle.frame_row.specs.Row.{dataOf}
 use Rattle.bank_state.specs.Clock.{advanced}
 use Rattle.bank_state.specs.State.{Bank, BankState}
 use Rattle.bank_verdicts.specs.declared.verdict.Context.{Context}
@@ -15,7 +14,7 @@ use Rattle.journal.specs.Row.{Journal, enteredAll}
 use Rattle.bank_events.specs.Entries.{orderIn, actionEntries, callEntries}
 use Rattle.bank.specs.declared.call.FrameAnswer.{FrameAnswer}
 use Rattle.bank.specs.declared.call.FrameAnswer.the-variants.{Reply, WrongLength}
-use Rattle.bank.specs.Call.{respond, FrameInput, contextOf}
+use Rattle.bank.specs.Call.{FrameInput, callVerdict}
 
 -- the clock that a call sets
 abbrev pub clockBy : BankState → FrameInput → ℕ
@@ -29,9 +28,8 @@ requestEntries c b q d = let v = judge c b q (length d) in actionEntries v (orde
 unfoldable pub enteredBy : BankState → FrameInput → List Entry
 enteredBy w a =
     let q = readRequest (a .frame) in
-    let b = advanced (a .time) w in
-    let v = respond (contextOf a) b q (dataOf (a .frame)) .verdict in
-    callEntries (clockBy w a) (w .bank) v (orderIn v (b .bank) q) q
+    let v = callVerdict w a in
+    callEntries (clockBy w a) (w .bank) v (orderIn v (advanced (a .time) w .bank) q) q
 
 -- a call given number 1 enters nothing
 abbrev pub ifAnswered : FrameAnswer → List Entry → List Entry

@@ -39,8 +39,10 @@ ghost use Rattle.bank_sound.specs.Sound.{isSound};
 ghost use Rattle.frame_table.specs.Table.{lastTime};
 ghost use Rattle.bank_state.specs.Limits.{placeCount, storeBytes, idBytes, replyRoom};
 ghost use Rattle.bank_rows.specs.State.{bankOf};
+ghost use Rattle.bank_verdicts.specs.declared.verdict.Verdict.the-variants.{Unreadable};
+ghost use Rattle.bank_verdicts.specs.Judgement.{judge};
 ghost use Rattle.bank_verdicts.specs.Replies.{replyTo, segmentIn};
-ghost use Rattle.bank.specs.Call.{Bounded, Sendable, fileSegment, SentAs, frameInput};
+ghost use Rattle.bank.specs.Call.{Bounded, Sendable, fileSegment, SentAs, verdictBy, callVerdict, frameInput};
 ghost use Rattle.bank_steps.specs.Lent.{lent, stateOf, Prepared};
 ghost use Rattle.journal.specs.Events.{entriesIn};
 ghost use Rattle.bank_events.specs.Entries.{Holds};
@@ -59,10 +61,11 @@ pub struct FrameOut {
     pub code: u64,
 }
 
-// What a call on the bank's rows comes to: its answer, and the events that it enters.
+// What a call on the bank's rows comes to: its answer, the events that it enters, and its request's verdict.
 pub struct FrameStep {
     pub out: FrameOut,
     pub batch: Batch,
+    pub verdict: Verdict,
 }
 
 // The reply written into the lent buffer: its answer, and its return code.
@@ -119,26 +122,36 @@ fn respond(
         ≡ lentRespond context (lent (now (rows .entry)) (now (orders .entry)) (now (mailboxes .entry)))
         q (now (bytes .entry)) (now (buffer .entry)))
         × Holds (r .batch) (ifAnswered (r .out .answer) (entriesIn dropped
-        ++ requestEntries context (bankOf (now (rows .entry))) q (now (bytes .entry)))) ⌝ }
+        ++ requestEntries context (bankOf (now (rows .entry))) q (now (bytes .entry))))
+        × (r .verdict ≡ verdictBy (r .out .answer)
+        (judge context (bankOf (now (rows .entry))) q (length (now (bytes .entry))))) ⌝ }
 {
     let n = file_length_of(rows, q.subscriber());
     let named = named_order(rows, q);
     let verdict = step(rows, context, q, bytes, orders, mailboxes);
     let out = reply(verdict, q, n, mailboxes, buffer);
     let batch = with_action(dropped, verdict, verdict_order(verdict, named), q);
-    FrameStep { out, batch }
+    FrameStep {
+        out,
+        batch,
+        verdict,
+    }
 }
 
-// Number 1, and no events.
+// Number 1, no events, and a verdict that does nothing.
 fn turned_away() -> FrameStep
-    ensures { λ r. ⌜ (r .out ≡ noReply) × Holds (r .batch) [] ⌝ }
+    ensures { λ r. ⌜ (r .out ≡ noReply) × Holds (r .batch) [] × (r .verdict ≡ Unreadable) ⌝ }
 {
     let out = FrameOut {
         answer: FrameAnswer::WrongLength,
         code: 0,
     };
     let batch = no_events();
-    FrameStep { out, batch }
+    FrameStep {
+        out,
+        batch,
+        verdict: Verdict::Unreadable,
+    }
 }
 
 // Whether the lent lengths are right, and the time is not over the last one.
@@ -181,6 +194,9 @@ pub fn answer_request(
         (frameInput time (now (ids .entry)) frame (now (buffer .entry))))
         × Holds (r .batch) (ifAnswered (r .out .answer)
         (enteredBy (stateOf (lent (now (rows .entry)) (now (orders .entry)) (now (mailboxes .entry))))
+        (frameInput time (now (ids .entry)) frame (now (buffer .entry)))))
+        × (r .verdict ≡ verdictBy (r .out .answer)
+        (callVerdict (stateOf (lent (now (rows .entry)) (now (orders .entry)) (now (mailboxes .entry))))
         (frameInput time (now (ids .entry)) frame (now (buffer .entry)))))) ⌝ }
 {
     if !lent_right(orders.len(), mailboxes.len(), ids.len(), buffer.len(), time) {
@@ -195,7 +211,35 @@ pub fn answer_request(
     respond(rows, dropped, context, q, bytes, orders, mailboxes, buffer)
 }
 
-// A frame arrives at a bank time, with the bank's rows, the ID bytes, both stores and the reply buffer lent.
+// A frame arrives at a bank time, with the rows of a bank, the ID bytes, both stores and the reply buffer lent.
+pub fn answer_sound(
+    rows: &mut [u64],
+    time: u64,
+    ids: &[u8],
+    frame: &[u8],
+    orders: &mut [u8],
+    mailboxes: &mut [u8],
+    buffer: &mut [u8],
+) -> FrameStep
+    requires { ⌜ isSound (now rows) ≡ true ⌝ }
+    ensures { λ r. ⌜ (lentFrameCallOf (r .out) (lent (now (rows .exit)) (now (orders .exit)) (now (mailboxes .exit)))
+        (now (buffer .exit))
+        ≡ lentFrameCall (lent (now (rows .entry)) (now (orders .entry)) (now (mailboxes .entry)))
+        (frameInput time (now (ids .entry)) (now (frame .entry)) (now (buffer .entry))))
+        × Holds (r .batch) (ifAnswered (r .out .answer)
+        (enteredBy (stateOf (lent (now (rows .entry)) (now (orders .entry)) (now (mailboxes .entry))))
+        (frameInput time (now (ids .entry)) (now (frame .entry)) (now (buffer .entry)))))
+        × (r .verdict ≡ verdictBy (r .out .answer)
+        (callVerdict (stateOf (lent (now (rows .entry)) (now (orders .entry)) (now (mailboxes .entry))))
+        (frameInput time (now (ids .entry)) (now (frame .entry)) (now (buffer .entry))))) ⌝ }
+{
+    let p = read_whole_request(frame);
+    let q = p.fields;
+    let bytes = data_at(frame, p.from, p.end);
+    answer_request(rows, time, ids, q, bytes, orders, mailboxes, buffer)
+}
+
+// A frame arrives at a bank time, with any rows, the ID bytes, both stores and the reply buffer lent.
 pub fn answer_frame(
     rows: &mut [u64],
     time: u64,
@@ -211,13 +255,13 @@ pub fn answer_frame(
         (frameInput time (now (ids .entry)) (now (frame .entry)) (now (buffer .entry))))
         × Holds (r .batch) (ifAnswered (r .out .answer)
         (enteredBy (stateOf (lent (now (rows .entry)) (now (orders .entry)) (now (mailboxes .entry))))
+        (frameInput time (now (ids .entry)) (now (frame .entry)) (now (buffer .entry)))))
+        × (r .verdict ≡ verdictBy (r .out .answer)
+        (callVerdict (stateOf (lent (now (rows .entry)) (now (orders .entry)) (now (mailboxes .entry))))
         (frameInput time (now (ids .entry)) (now (frame .entry)) (now (buffer .entry))))) ⌝ }
 {
     if !is_sound(rows) {
         return turned_away();
     }
-    let p = read_whole_request(frame);
-    let q = p.fields;
-    let bytes = data_at(frame, p.from, p.end);
-    answer_request(rows, time, ids, q, bytes, orders, mailboxes, buffer)
+    answer_sound(rows, time, ids, frame, orders, mailboxes, buffer)
 }

@@ -25,4 +25,6 @@ pub mod DropsKept
 pub mod Signers
 pub mod RequestKept
 pub mod SessionKept
+pub mod CountsMoved
+pub mod CountsKept
 pub mod Fresh

@@ -2,3 +2,4 @@
 pub mod Packed
 pub mod State
 pub mod Session
+pub mod Counts

@@ -9,6 +9,8 @@ use Rattle.bank_sound.specs.Sound as sound
 use Rattle.bank_events.specs.Entries as entries
 use Rattle.bank.specs.Journal as bankJournal
 use Rattle.bank.specs.Lent as lentCalls
+use Rattle.opening_counts.specs.Counts as sevenCounts
+use Rattle.bank_session.specs.Counts as sessionCounts
 use Rattle.bank_session.specs.Session as sessionCalls
 use Rattle.image.specs.Image as image
 use Rattle.image.specs.Items as items
@@ -22,7 +24,7 @@ use Rattle.bank_cases.specs.Table as table
 -- a session's numbers
 unfoldable pub numbers : ℕ
 unfolding lists.keep rows.rowsOf rows.rowsInUse rows.numbersOf rows.written rows.allBelow laid.bankOf laid.joined
-    laid.stored sound.isSoundUpload sound.isSound table.from
+    laid.stored sound.isSoundUpload sound.isSound sevenCounts.fits sevenCounts.canGrow sessionCounts.countsOver table.from
 numbers = 0
 
 -- the events of a call

@@ -39,7 +39,8 @@ use Rattle.bank_rows.specs.State.{stored}
 use Rattle.bank_state.specs.Search.{isRemembered}
 use Rattle.bank_steps.specs.Lent.{stateOf}
 use Rattle.bank.specs.Call.{FrameInput}
-use Rattle.bank_session.specs.Session.{LentSession, session, eventCount, bankIn, withCount}
+use Rattle.opening_counts.specs.Counts.{noCounts}
+use Rattle.bank_session.specs.Session.{LentSession, session, eventCount, bankIn, withNumbers}
 use Rattle.bank_session.specs.Session.{SessionFrameCall, sessionFrameCall, sessionFileCall}
 use Rattle.image_calls.specs.Calls.{putAway, takeUp}
 use Rattle.case_rows.specs.Rows.{Case, _gives_, clock, idOf, six, bytesIn, replyIn}
@@ -187,7 +188,7 @@ late = 699999
 
 -- the numbers of a session with this bank
 abbrev pub numbersOf : Bank → List ℕ
-numbersOf b = withCount (stored b (replicate stateSize 0)) 0
+numbersOf b = withNumbers (stored b (replicate stateSize 0)) 0 noCounts
 
 -- a session with this bank, with so many records, and stores of so many bytes
 abbrev pub lending : ℕ → ℕ → ℕ → Bank → LentSession

@@ -1,2 +1,3 @@
-// The clock of the bank in lent rows: the time of a call, and what it drops and forgets.
+// The clock of the bank in lent rows: the time of a call, what it drops and forgets, and how many it drops.
 pub mod clock;
+pub mod idle;

@@ -147,7 +147,7 @@ use Rattle.bank_history.proofs.GivenSigners.{entryId, count-from, signe
 
 -- ---- how a transaction stands: an open upload
 
-abbrev isUploadDirection : Direction → Bool
+abbrev pub isUploadDirection : Direction → Bool
 isUploadDirection direction.Upload = true
 isUploadDirection direction.Download = false
 
@@ -244,7 +244,7 @@ kept-open c Dropped z = absurd (let y : _≡_ {A = ℕ} 0 1 = cc in omega arith)
 -- ---- the openings
 
 -- what was opened has the running number of an accepted opening
-numbered-low : {m : ℕ} {l : List Bits128} {t : Bits128} → Numbered m l → In t l → t .low < m + length l
+pub numbered-low : {m : ℕ} {l : List Bits128} {t : Bits128} → Numbered m l → In t l → t .low < m + length l
 numbered-low none i = absurd (in-none i)
 numbered-low {m} {t = t} (one {t = u} e r) (here z) = let y = ap (λ (i : Bits128). i .low) z in omega arith
 numbered-low (one e r) (there i) = let a = numbered-low r i in omega arith
@@ -260,7 +260,7 @@ none-above t a none = refl
 none-above t {m} a (one {t = u} e r) =
     rw (other-bits u t (λ z. omega arith)) (let c = none-above t (omega arith) r in omega arith)
 
-one-listed : (t : Bits128) {m : ℕ} {l : List Bits128} → Numbered m l → countOf (λ (u : Bits128). sameBits u t) l ≤ 1
+pub one-listed : (t : Bits128) {m : ℕ} {l : List Bits128} → Numbered m l → countOf (λ (u : Bits128). sameBits u t) l ≤ 1
 unfolding countOf
 one-listed t none = omega arith
 one-listed t {m} (one {t = u} {l = l} e r) = at (sameBits u t) refl (one-listed t r)

@@ -52,7 +52,7 @@ use Rattle.bank_history.specs.ByReplies as byReplies
 use Rattle.bank_history.specs.Journal as journal
 
 -- what the calls compute with
-unfoldable frames : ℕ
+unfoldable pub frames : ℕ
 unfolding octets.numberFrom octets.number octets.bytesOf octets.fieldBytes octets.overwrite
     frameTable.width frameTable.valuesOf frameTable.inRange frameTable.allowed frameTable.rowFits frameTable.findForm frameTable.formOf
     frameRow.spelled frameRow.listed frameRow.wellFormed frameRow.stands frameRow.fieldSize frameRow.content frameRow.contents frameRow.behind
@@ -66,7 +66,7 @@ unfolding octets.numberFrom octets.number octets.bytesOf octets.fieldBytes octet
     orderNumbers.character orderNumbers.letter orderNumbers.orderNumberOf
 frames = 0
 
-unfoldable bank : ℕ
+unfoldable pub bank : ℕ
 unfolding clocks.isIdle clocks.freed clocks.dropUpload clocks.dropUploads clocks.ends clocks.endDownloads clocks.forget
     clocks.atClock clocks.advanced rows.firstOf rows.countOf rows.keep rows.keepOnly
     searches.freePlace searches.freeDownload searches.freeNonce searches.isUpload searches.findUpload searches.isDownload
@@ -89,12 +89,12 @@ unfolding entries.insertByOpening entries.byOpening entries.droppedUploads entri
     bankJournal.enteredBy bankJournal.journalAfter journal.journalOver journal.journalOf
 events-entered = 0
 
-unfoldable events-told : ℕ
+unfoldable pub events-told : ℕ
 unfolding events.eventsFrom byReplies.ownGiven orderNumbers.digitOf orderNumbers.letterOf orderNumbers.orderIn byReplies.openedIds byReplies.atOpened byReplies.sentUpTo byReplies.standing
     journal.uploadDrops journal.entriesOf journal.eventsIn
 events-told = 0
 
-unfoldable signatures-given : ℕ
+unfoldable pub signatures-given : ℕ
 unfolding requests.signing refusals.noOwner refusals.signsDownload refusals.isOrder refusals.findOrder refusals.notBooked
     refusals.noMemory refusals.signingRows judgement.judgeSigning signings.sign
     signers.hasBit signers.isSigner signers.withSigner signers.countFrom signers.signerCount
@@ -104,18 +104,18 @@ signatures-given = 0
 -- ---- the calls
 
 -- the transaction of opening n: the lent ID bytes are 0
-abbrev idOf : ℕ → Bits128
+abbrev pub idOf : ℕ → Bits128
 idOf n = record { high = 0; low = n }
 
 -- a frame at this time
-abbrev call : ℕ → List ℕ → BankCall
+abbrev pub call : ℕ → List ℕ → BankCall
 call time frame = Frame (frameInput time (replicate idBytes 0) frame (replicate replyRoom 0))
 
 -- the time of the openings, and the first one after their idle limit
-abbrev early : ℕ
+abbrev pub early : ℕ
 early = 1000
 
-abbrev late : ℕ
+abbrev pub late : ℕ
 late = early + idleLimit + 1
 
 -- an opening of an upload of one segment by a subscriber, with its nonce

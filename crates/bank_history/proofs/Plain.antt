@@ -51,7 +51,7 @@ use Rattle.bank_history.specs.Journal.{
 abbrev plains : List Exchange → List Exchange
 plains h = map plain h
 
-ids-plain : (h : List Exchange) → openedIds (plains h) ≡ openedIds h
+pub ids-plain : (h : List Exchange) → openedIds (plains h) ≡ openedIds h
 unfolding openedIds
 ids-plain [] = refl
 ids-plain (e ∷ h) =
@@ -105,7 +105,7 @@ form-plain d f g k NoForm = refl
 form-plain d f g k (Request x) = refl
 form-plain d f g k (Reply x) = k x
 
-standing-plain : (t : Bits128) (h : List Exchange) → standing t (plains h) ≡ standing t h
+pub standing-plain : (t : Bits128) (h : List Exchange) → standing t (plains h) ≡ standing t h
 unfolding standing
 standing-plain t [] = refl
 standing-plain t (e ∷ h) =

@@ -14,6 +14,7 @@ use Rattle.bank_session.specs.Session.{
   LentSession,
   session,
   sessionSize,
+  countsIn,
   bankIn,
   journalIn,
   takesFrame,
@@ -23,6 +24,7 @@ use Rattle.bank_session.specs.Session.{
   sessionFileCall,
 }
 use Rattle.bank_admitted.specs.Session.{Brought}
+use Rattle.bank_admitted.specs.Counts.{CountsHold}
 use Rattle.bank_history.specs.Answers.{AllBytes}
 use Rattle.bank_history.specs.History.{BankCall, Frame, File, pastOf}
 use Rattle.bank_history.specs.Journal.{journalOf}
@@ -41,11 +43,15 @@ lentSessionOf [] = session (replicate sessionSize 0) emptyRow (replicate storeBy
 lentSessionOf (c ∷ calls) = sessionAfter c (lentSessionOf calls)
 
 pub record OnSessions : Type 0 where
-  -- after every list of calls the numbers and the records have their lengths, and there is room for nine events more
+  -- after every list of calls the numbers and the records have their lengths, there is room for nine events more, and
+  -- each count can grow
   pub taken : {calls : List BankCall} → AllBytes calls → takesFrame (lentSessionOf calls) ≡ true
   -- the session is the memory that the calls on the bank leave, and the journal of the calls
   pub bank : {calls : List BankCall} → AllBytes calls → bankIn (lentSessionOf calls) ≡ lentOf calls
   pub journal : {calls : List BankCall} → AllBytes calls → journalIn (lentSessionOf calls) ≡ journalOf calls
+  -- its counts agree with the bank's open transactions, with the book and with the openings
+  pub counts : {calls : List BankCall} → AllBytes calls →
+      CountsHold (pastOf calls .bankState .bank) (countsIn (lentSessionOf calls .rows))
   -- the next call answers as the call on the bank does: answer, number, code, buffer; the session keeps what it leaves
   pub frame : {calls : List BankCall} → AllBytes calls → (a : FrameInput) →
       sessionFrameCall (lentSessionOf calls) a

@@ -27,13 +27,17 @@ use Rattle.bank_history.specs.History.{Exchange, Stands, BankCall, Frame, Past,
 use Rattle.bank_history.specs.FalseEconomies.{WellMadeOpening, RefusedWith, Attempt, Attempts, StillOpen}
 use Rattle.bank_history.specs.Status.{Open, Drop, drops, eventsOf, OpenAs, OpenIn, Rising}
 use Rattle.bank_history.specs.Opened.{isOwnOpened, isUploadOpened}
-use Rattle.bank_history.specs.ByReplies.{ownGiven, numberGiven, standing}
+use Rattle.bank_history.specs.ByReplies.{openedCount, ownGiven, numberGiven, standing}
 use Rattle.bank_history.specs.Timely.{Timely}
 use Rattle.bank_history.specs.Series.{InSeries, OwnInSeries, HeldBy, Held}
 use Rattle.bank_history.specs.Journal.{journalOf, eventsIn}
 use Rattle.bank_history.specs.JournalOrders.{NeverBooked}
 use Rattle.bank_history.specs.Signatures.{signatureCount}
 use Rattle.bank_history.specs.Signers.{Signature, BooksOrder, InBook, signersAt, SignsOnly, isSignedOf}
+use Rattle.opening_counts.specs.declared.seven.Counts.{Counts}
+use Rattle.opening_counts.specs.Counts.{sum}
+use Rattle.bank_counts.specs.Counts.{counts}
+use Rattle.bank_counts.proofs.Theorems.{openings-end}
 use Rattle.bank_history.proofs.ByReplies.{standing-is}
 use Rattle.bank_history.proofs.Drops.{call-drops}
 use Rattle.bank_history.proofs.FalseEconomies.{false-economies}
@@ -49,6 +53,7 @@ use Rattle.bank_resumed.specs.Calls.{
   putsAway,
   takesUp,
   callNumber,
+  leftBy,
   AllAllowed,
   bankCall,
   bankCalls,
@@ -131,6 +136,12 @@ Dropped t e h = In (Drop t) (eventsOf e h)
 abbrev Opened : Bits128 → BankState → Type 0
 Opened t w = OpenIn w t
 
+-- ---- counts
+
+counted-left : (ks : List HostCall) → AllAllowed ks → leftBy ks .counts ≡ counts (historyLeft ks)
+counted-left ks r =
+    resumed .counts r ∙ (openings-end .carries (bankCalls ks) ∙ ap (λ (p : Past). counts (p .history)) (sym (resumed .past r)))
+
 -- ---- together
 
 pub resumed-bank : {ks : List HostCall} → AllAllowed ks → ResumedBank ks
@@ -181,6 +192,9 @@ resumed-bank {ks} r = record {
       (λ calls e n. series .onlyHeld n) ks e n;
   row = resumed .holds (λ p j. j .row ≡ rowOf (eventsIn (p .history))) (journal-told .row) ks r;
   events = resumed .holds (λ p j. j .events ≡ length (eventsIn (p .history))) (journal-told .events) ks r;
+  counted = counted-left ks r;
+  adds = ap (λ (c : Counts). sum c) (counted-left ks r)
+      ∙ resumed .holds (λ p j. sum (counts (p .history)) ≡ openedCount (p .history)) (openings-end .adds) ks r;
   signers = λ {o} {i} placed u. resumed .holds
       (λ p j. InBook (p .bankState) o i → isSigner u (signersAt (p .bankState) i) ≡ true → Signature o u (p .history))
       (λ calls a. signers-told .signers calls a u) ks r placed;

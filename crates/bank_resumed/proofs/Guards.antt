@@ -24,6 +24,7 @@ use Rattle.bank.specs.Mailbox.{fileRefusals, carryOutFile, fileCall}
 use Rattle.bank_session.specs.Session.{
   LentSession,
   sessionSize,
+  countsIn,
   bankRows,
   bankIn,
   journalIn,
@@ -31,7 +32,7 @@ use Rattle.bank_session.specs.Session.{
   sessionFrameCall,
   sessionFileCall,
 }
-use Rattle.bank_session.proofs.Laws.{file-events}
+use Rattle.bank_session.proofs.Laws.{file-events, file-counts}
 use Rattle.bank_session.proofs.Host.{frame-numbered, frame-kept, file-numbered, file-number, file-bank-left}
 use Rattle.bank_admitted.specs.Session.{Brought}
 use Rattle.bank_history.specs.History.{start}
@@ -99,7 +100,7 @@ file-allowed s m mailbox file g _ =
 -- memory that is all zero is the session that stands at the start
 fresh-stands : Standing freshSession (leftBy [])
 unfolding leftBy freshSession start journalOf
-fresh-stands = (ap (λ (b : Bank). bankState b (replicate storeBytes 0) (replicate storeBytes 0)) fresh-rows, refl)
+fresh-stands = (ap (λ (b : Bank). bankState b (replicate storeBytes 0) (replicate storeBytes 0)) fresh-rows, refl, refl)
 
 -- a frame call given a number is given number 1
 number-one : (r : FrameAnswer) → (frameNumber r ≡ 0 → ⊥) → frameNumber r ≡ 1
@@ -143,7 +144,7 @@ module _ {m : LentSession} {ks : List HostCall} (c : Covered m ks) where
         ap (λ (k : SessionFrameCall). k .session) (on-sessions .unchanged brought (frame-number ∙ one))
 
     frame-standing : Dec (answered .number ≡ 0) → Standing (answered .session) (exec (frameArrives m a) s)
-    frame-standing (yes z) = subst (Standing (answered .session)) (sym (carried (frameArrives m a) s z)) (refl, refl)
+    frame-standing (yes z) = subst (Standing (answered .session)) (sym (carried (frameArrives m a) s z)) (refl, refl, refl)
     frame-standing (no n) =
         subst (Standing (answered .session)) (sym (numbered-stays (frameArrives m a) s n))
         (subst (λ (x : LentSession). Standing x s) (sym (frame-away n)) (c .standing))
@@ -169,6 +170,9 @@ module _ {m : LentSession} {ks : List HostCall} (c : Covered m ks) where
         let of : ℕ → Journal = λ (n : ℕ). record { events = n; row = m .row } in
         ap of (file-events (m .rows) mailbox file (m .mailboxes) long) ∙ c .standing .1
 
+    file-counted : countsIn (afterFile m mailbox file .rows) ≡ s .counts
+    file-counted = file-counts (m .rows) mailbox file (m .mailboxes) long ∙ c .standing .2
+
     file-away : (callNumber put ≡ 0 → ⊥) → stateOf (bankIn (afterFile m mailbox file)) ≡ w
     unfolding fileCall
     file-away n =
@@ -185,10 +189,11 @@ module _ {m : LentSession} {ks : List HostCall} (c : Covered m ks) where
         subst (Standing (afterFile m mailbox file)) (sym (carried put s z)) (
           ap (λ (v : BankState). bankState (bankOf (bankRows (k .rows))) (v .orders) (k .mailboxes)) (c .standing .0),
           file-journal,
+          file-counted,
         )
     file-standing (no n) =
         subst (Standing (afterFile m mailbox file)) (sym (numbered-stays put s n))
-        (file-away n ∙ c .standing .0, file-journal)
+        (file-away n ∙ c .standing .0, file-journal, file-counted)
 
     file-covered : Covered (afterFile m mailbox file) (put ∷ ks)
     unfolding leftBy
@@ -223,7 +228,7 @@ module _ {m : LentSession} {ks : List HostCall} (c : Covered m ks) where
           (here refl))
           (more (λ _. c .standing) (c .allowed));
       standing = subst (Standing (takeUp n (imagePut m buffer) .session))
-          (sym (carried up (exec away s) up-unnumbered)) (refl, refl);
+          (sym (carried up (exec away s) up-unnumbered)) (refl, refl, refl);
       admitted = subst InList (sym (ap (λ (k : TakeUp). k .session) up-taken)) (c .admitted);
     }
 

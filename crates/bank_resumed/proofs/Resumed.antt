@@ -25,11 +25,14 @@ use Rattle.bank.specs.declared.mailbox.FileAnswer.the-variants.{Done}
 use Rattle.bank.specs.Call.{FrameInput, frameCall}
 use Rattle.bank.specs.Journal.{journalAfter, journalBy}
 use Rattle.bank.specs.Mailbox.{fileCall}
-use Rattle.bank_session.specs.Session.{LentSession, bankRows, bankIn, journalIn}
+use Rattle.opening_counts.specs.declared.seven.Counts.{Counts}
+use Rattle.bank_session.specs.Session.{LentSession, bankRows, countsIn, bankIn, journalIn}
+use Rattle.bank_session.specs.Counts.{countsOver, countsBy}
 use Rattle.bank_session.proofs.Host.{
   frame-answered,
   frame-bank-left,
   frame-journal-left,
+  frame-counts-left,
   file-long,
   file-sound,
   file-answered,
@@ -50,6 +53,7 @@ use Rattle.bank_history.specs.History.{
 }
 use Rattle.bank_history.specs.Journal.{journalOver, journalOf}
 use Rattle.bank_history.specs.FalseEconomies.{Next}
+use Rattle.bank_counts.specs.Counts.{carriedBy, carried}
 use Rattle.bank_resumed.specs.Calls.{
   HostCall,
   frameArrives,
@@ -103,7 +107,8 @@ module _ (p : Past) (mailbox : ℕ) (file : List ℕ) where
 record Same (s : Left) (calls : List BankCall) : Type 0 where
   pub past : s .past ≡ pastOf calls
   pub journal : s .journal ≡ journalOf calls
-  pub written : (image : List ℕ) → In image (s .images) → Resumes (s .past .bankState) (s .journal) image
+  pub counts : s .counts ≡ carried calls
+  pub written : (image : List ℕ) → In image (s .images) → Resumes (s .past .bankState) (s .journal) (s .counts) image
 
 module _ {s : Left} {calls : List BankCall} (k : Same s calls) where
   -- a bank with its stores, and the answered frames so far
@@ -116,9 +121,10 @@ module _ {s : Left} {calls : List BankCall} (k : Same s calls) where
 
   frame-same : (m : LentSession) (a : FrameInput) → Standing m s → callNumber (frameArrives m a) ≡ 0 →
       Same (carryOut (frameArrives m a) s) (Frame a ∷ calls)
-  unfolding pastOf journalOf
+  unfolding pastOf journalOf carried
   frame-same m a g z =
       let w = stateOf (bankIn m) in
+      let c = countsIn (m .rows) in
       let (n, e) = frame-answered m a z in
       record {
         past = ap (λ (v : BankState). pastWith v (callExchange w a ∷ s .past .history)) (frame-bank-left m a z)
@@ -126,12 +132,15 @@ module _ {s : Left} {calls : List BankCall} (k : Same s calls) where
         journal = frame-journal-left m a z ∙ (sym (frame-over (so-far w) a e (journalIn m))
             ∙ (ap (λ (p : Past). journalOver (Frame a) p (journalIn m)) (past-is (g .0))
             ∙ ap (journalOver (Frame a) (pastOf calls)) (g .1 ∙ k .journal)));
+        counts = frame-counts-left m a z ∙ (sym (ap (λ (r : FrameAnswer). countsBy r (countsOver w a c) c) e)
+            ∙ (ap (λ (p : Past). carriedBy (Frame a) p c) (past-is (g .0))
+            ∙ ap (carriedBy (Frame a) (pastOf calls)) (g .2 ∙ k .counts)));
         written = λ image i. absurd (in-none i);
       }
 
   file-same : (rows mailboxes : List ℕ) (mailbox : ℕ) (file : List ℕ) → let c = filePut rows mailboxes mailbox file in
       Premise c s → callNumber c ≡ 0 → Same (carryOut c s) (File mailbox file ∷ calls)
-  unfolding pastOf journalOf journalOver
+  unfolding pastOf journalOf journalOver carried
   file-same rows mailboxes mailbox file g z =
       let orders = s .past .bankState .orders in
       let w = bankState (bankOf (bankRows rows)) orders mailboxes in
@@ -142,18 +151,21 @@ module _ {s : Left} {calls : List BankCall} (k : Same s calls) where
             ∙ (sym (file-after (so-far w) mailbox file (file-answered rows mailboxes mailbox file z))
             ∙ ap (after (File mailbox file)) (past-is same));
         journal = k .journal;
+        counts = k .counts;
         written = λ image i. absurd (in-none i);
       }
 
   away-same : (m : LentSession) (buffer : List ℕ) → Standing m s → callNumber (putsAway m buffer) ≡ 0 →
       Same (carryOut (putsAway m buffer) s) calls
-  away-same m buffer g z = record { past = k .past; journal = k .journal; written = at }
+  away-same m buffer g z = record { past = k .past; journal = k .journal; counts = k .counts; written = at }
     where
-      at : (image : List ℕ) → In image (imagePut m buffer ∷ s .images) → Resumes (s .past .bankState) (s .journal) image
+      at : (image : List ℕ) → In image (imagePut m buffer ∷ s .images) →
+          Resumes (s .past .bankState) (s .journal) (s .counts) image
       at image (here e) =
-          subst (Resumes (s .past .bankState) (s .journal)) (sym e)
-          (subst₂ (λ (w : BankState) (j : Journal). Resumes w j (imagePut m buffer)) (g .0) (g .1)
-          (put-resumes m buffer z))
+          subst (Resumes (s .past .bankState) (s .journal) (s .counts)) (sym e)
+          (subst (λ (c : Counts). Resumes (s .past .bankState) (s .journal) c (imagePut m buffer)) (g .2)
+          (subst₂ (λ (w : BankState) (j : Journal). Resumes w j (countsIn (m .rows)) (imagePut m buffer)) (g .0) (g .1)
+          (put-resumes m buffer z)))
       at image (there i) = k .written image i
 
   -- the session taken up is the one that stands
@@ -161,7 +173,7 @@ module _ {s : Left} {calls : List BankCall} (k : Same s calls) where
       carryOut (takesUp m image) s ≡ s
   up-stays m image i z =
       let e = k .written image i m z in
-      λ x. left (so-far (e .0 x)) (e .1 x) (s .images)
+      λ x. left (so-far (e .0 x)) (e .1 x) (e .2 x) (s .images)
 
   call-same : (c : HostCall) → Premise c s → callNumber c ≡ 0 → Same (carryOut c s) (bankCall c calls)
   call-same (frameArrives m a) g z = frame-same m a g z
@@ -182,8 +194,8 @@ module _ {s : Left} {calls : List BankCall} (k : Same s calls) where
 -- ---- every allowed list
 
 start-same : Same (leftBy []) []
-unfolding leftBy pastOf
-start-same = record { past = refl; journal = refl; written = λ image i. absurd (in-none i) }
+unfolding leftBy pastOf carried
+start-same = record { past = refl; journal = refl; counts = refl; written = λ image i. absurd (in-none i) }
 
 all-same : {ks : List HostCall} → AllAllowed ks → Same (leftBy ks) (bankCalls ks)
 unfolding leftBy bankCalls
@@ -221,6 +233,7 @@ unfolding next-same
 resumed = record {
   past = λ r. all-same r .past;
   journal = λ r. all-same r .journal;
+  counts = λ r. all-same r .counts;
   next = next-same;
   input = λ n. refl;
   joins = next-joins;

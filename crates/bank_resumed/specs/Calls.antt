@@ -11,7 +11,9 @@ use Rattle.bank_state.specs.State.{BankState, bankState}
 use Rattle.bank_rows.specs.State.{bankOf}
 use Rattle.bank_steps.specs.Lent.{stateOf}
 use Rattle.bank.specs.Call.{FrameInput}
-use Rattle.bank_session.specs.Session.{LentSession, bankRows, bankIn, journalIn, sessionFrameCall, sessionFileCall}
+use Rattle.opening_counts.specs.declared.seven.Counts.{Counts}
+use Rattle.opening_counts.specs.Counts.{noCounts}
+use Rattle.bank_session.specs.Session.{LentSession, bankRows, countsIn, bankIn, journalIn, sessionFrameCall, sessionFileCall}
 use Rattle.bank_history.specs.History.{Exchange, callExchange, BankCall, Frame, File, Past, start}
 use Rattle.bank_history.specs.Journal.{journalOf}
 use Rattle.image_calls.specs.Calls.{imageLength, putAway, takeUp}
@@ -27,18 +29,19 @@ pub data HostCall : Type 0 where
   -- a session is taken up: the session lent, whatever stands there; the image
   takesUp : LentSession → List ℕ → HostCall
 
--- What a list of calls has left: the session, "bank, both stores, journal", with the answered frames, the newest first,
--- and the images written since the last frame or file call given no number
+-- What a list of calls has left: the session, "bank, both stores, journal", and its counts, with the answered frames, the
+-- newest first, and the images written since the last frame or file call given no number
 pub record Left : Type 0 where
   pub past : Past
   pub journal : Journal
+  pub counts : Counts
   pub images : List (List ℕ)
 
 abbrev pub pastWith : BankState → List Exchange → Past
 pastWith w h = record { bankState = w; history = h }
 
-abbrev pub left : Past → Journal → List (List ℕ) → Left
-left p j images = record { past = p; journal = j; images = images }
+abbrev pub left : Past → Journal → Counts → List (List ℕ) → Left
+left p j c images = record { past = p; journal = j; counts = c; images = images }
 
 -- ---- ONE CALL
 
@@ -58,15 +61,16 @@ abbrev pub carryOut : HostCall → Left → Left
 carryOut (frameArrives m a) s =
     let k = sessionFrameCall m a in
     let h = callExchange (stateOf (bankIn m)) a ∷ s .past .history in
-    left (pastWith (stateOf (bankIn (k .session))) h) (journalIn (k .session)) []
+    left (pastWith (stateOf (bankIn (k .session))) h) (journalIn (k .session)) (countsIn (k .session .rows)) []
 carryOut (filePut rows mailboxes mailbox file) s =
     let k = sessionFileCall rows mailbox file mailboxes in
     let w = bankState (bankOf (bankRows (k .rows))) (s .past .bankState .orders) (k .mailboxes) in
-    left (pastWith w (s .past .history)) (s .journal) []
-carryOut (putsAway m buffer) s = left (s .past) (s .journal) (imagePut m buffer ∷ s .images)
+    left (pastWith w (s .past .history)) (s .journal) (s .counts) []
+carryOut (putsAway m buffer) s = left (s .past) (s .journal) (s .counts) (imagePut m buffer ∷ s .images)
 carryOut (takesUp m image) s =
     let k = takeUp m image in
-    left (pastWith (stateOf (bankIn (k .session))) (s .past .history)) (journalIn (k .session)) (s .images)
+    left (pastWith (stateOf (bankIn (k .session))) (s .past .history)) (journalIn (k .session)) (countsIn (k .session .rows))
+    (s .images)
 
 -- "a number, nothing changed"
 unfoldable pub exec : HostCall → Left → Left
@@ -74,18 +78,20 @@ exec k s = cond (eqb (callNumber k) 0) (carryOut k s) s
 
 -- what a list of calls to a fresh bank leaves, the newest call first
 unfoldable pub leftBy : List HostCall → Left
-leftBy [] = left start (journalOf []) []
+leftBy [] = left start (journalOf []) noCounts []
 leftBy (k ∷ ks) = exec k (leftBy ks)
 
 -- ---- THE PREMISE
 
 -- the session lent is the one that stands
 abbrev pub Standing : LentSession → Left → Type 0
-Standing m s = (stateOf (bankIn m) ≡ s .past .bankState) × (journalIn m ≡ s .journal)
+Standing m s =
+    (stateOf (bankIn m) ≡ s .past .bankState) × (journalIn m ≡ s .journal) × (countsIn (m .rows) ≡ s .counts)
 
 -- "Each call gets state, stores ... as the last call not given a number left them". "a resumed session when nothing ran
 -- between the writing and the taking up": the image is one that the list wrote, no frame or file call given no number
--- stands between, and the session lent is free. A file call may be lent any number of events, which it leaves
+-- stands between, and the session lent is free. A file call may be lent any number of events and any
+-- counts, which it leaves
 abbrev pub Premise : HostCall → Left → Type 0
 Premise (frameArrives m a) s = Standing m s
 Premise (filePut rows mailboxes mailbox file) s =

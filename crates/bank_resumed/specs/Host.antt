@@ -6,11 +6,13 @@ use mathlib.Core.List.{List, [], _∷_}
 use mathlib.Core.Path.{_≡_}
 use lib.ListN.{length}
 use Rattle.bank.specs.Call.{FrameInput}
-use Rattle.bank_session.specs.Session.{LentSession, sessionFrameCall}
+use Rattle.bank_session.specs.declared.report.CountAnswer.the-variants.{Counted}
+use Rattle.bank_session.specs.Session.{LentSession, sessionFrameCall, countCall}
 use Rattle.bank_admitted.specs.Session.{Brought}
 use Rattle.image_calls.specs.Calls.{imageLength, lengthsRight, takeUp}
 use Rattle.image_admitted.specs.Fresh.{freshSession}
 use Rattle.image_admitted.specs.Reached.{InList, afterFile}
+use Rattle.bank_counts.specs.Counts.{counts}
 use Rattle.bank_resumed.specs.Calls.{
   HostCall,
   frameArrives,
@@ -22,6 +24,7 @@ use Rattle.bank_resumed.specs.Calls.{
   Standing,
   AllAllowed,
 }
+use Rattle.bank_resumed.specs.Resumed.{historyLeft}
 
 -- the session that it holds after its calls, the newest first; a call given a number is one of them
 pub data Keeps : LentSession → List HostCall → Type 0 where
@@ -40,3 +43,8 @@ pub record Covered (m : LentSession) (ks : List HostCall) : Type 0 where
   pub allowed : AllAllowed ks
   pub standing : Standing m (leftBy ks)
   pub admitted : InList m
+
+-- card 12, "The unit reports seven counts in this order, each equal to the number so defined": asked of the session that
+-- it holds, whatever was put away and taken up before
+abbrev pub Reported : LentSession → List HostCall → Type 0
+Reported m ks = countCall (m .rows) ≡ Counted (counts (historyLeft ks))

@@ -52,7 +52,7 @@ use Rattle.bank_history.specs.FalseEconomies.{
 }
 use Rattle.bank_history.specs.Status.{Open, Drop, drops, eventsOf, OpenAs, OpenIn, Rising}
 use Rattle.bank_history.specs.Opened.{isOwnOpened, isUploadOpened}
-use Rattle.bank_history.specs.ByReplies.{ownGiven, numberGiven, standing}
+use Rattle.bank_history.specs.ByReplies.{openedCount, ownGiven, numberGiven, standing}
 use Rattle.bank_history.specs.Timely.{Timely}
 use Rattle.bank_history.specs.Series.{InSeries, OwnInSeries, HeldBy, Held}
 use Rattle.bank_history.specs.Journal.{journalOf, eventsIn}
@@ -67,6 +67,8 @@ use Rattle.bank_history.specs.Signers.{
   SignsOnly,
   isSignedOf,
 }
+use Rattle.opening_counts.specs.Counts.{sum}
+use Rattle.bank_counts.specs.Counts.{counts, carried}
 use Rattle.bank_resumed.specs.Calls.{
   HostCall,
   frameArrives,
@@ -94,9 +96,10 @@ pub record NextFrame (ks : List HostCall) (e : Exchange) : Type 0 where
 -- ---- the statement
 
 pub record Resumed : Type 1 where
-  -- bank, stores, answered frames and journal are those of the bank's calls alone
+  -- bank, stores, answered frames, journal and counts are those of the bank's calls alone
   pub past : {ks : List HostCall} → AllAllowed ks → leftBy ks .past ≡ pastOf (bankCalls ks)
   pub journal : {ks : List HostCall} → AllAllowed ks → leftBy ks .journal ≡ journalOf (bankCalls ks)
+  pub counts : {ks : List HostCall} → AllAllowed ks → leftBy ks .counts ≡ carried (bankCalls ks)
   -- an answered frame is the bank's next one, with all that it brings
   pub next : {ks : List HostCall} {e : Exchange} → NextFrame ks e → Next (bankCalls ks) e
   pub input : {ks : List HostCall} {e : Exchange} (n : NextFrame ks e) → next n .input ≡ n .input
@@ -166,6 +169,10 @@ pub record ResumedBank (ks : List HostCall) : Type 0 where
   -- `JournalTold`: the row and the number of events, by requests, replies and clocks
   pub row : leftBy ks .journal .row ≡ rowOf (eventsIn (historyLeft ks))
   pub events : leftBy ks .journal .events ≡ length (eventsIn (historyLeft ks))
+  -- `OpeningsEnd`: each of the seven counts that the session carries is the number of the openings that stand so, by
+  -- requests, replies and clocks
+  pub counted : leftBy ks .counts ≡ counts (historyLeft ks)
+  pub adds : sum (leftBy ks .counts) ≡ openedCount (historyLeft ks)
   -- `JournalOrders`, by the transaction ID: a booking; "a cancellation or drop", whatever allowed calls come after
   pub booked : {t : Bits128} → Recorded kind.Booked t (leftBy ks .journal .row) →
       ever isBooking t (historyLeft ks) ≡ true

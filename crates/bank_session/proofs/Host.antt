@@ -25,23 +25,25 @@ use Rattle.bank.specs.Mailbox.{fileRefusals, fileNumber, carryOutFile, fileCall
 use Rattle.bank.specs.Lent.{LentFrameCall, keptFrame, LentFileCall, lentFileCallOf, keptFile, lentFileCall}
 use Rattle.bank.proofs.Kept.{frame-state, file-state}
 use Rattle.bank.proofs.Lent.{rows-refused, lent-frame}
+use Rattle.bank_session.specs.Counts.{countsOver}
 use Rattle.bank_session.specs.Session.{
   LentSession,
   sessionSize,
   bankRows,
-  eventCount,
+  countsIn,
   bankIn,
   journalIn,
   takesFrame,
   journalNext,
+  countsNext,
   withJournal,
   SessionFrameCall,
   sessionFrameCall,
-  withEvents,
+  withKept,
   sessionFileCall,
 }
 use Rattle.bank_session.proofs.Session.{frame-refused, frame-taken}
-use Rattle.bank_session.proofs.Laws.{frame-bank, frame-journal, file-taken, file-bank}
+use Rattle.bank_session.proofs.Laws.{frame-bank, frame-journal, frame-counts, file-taken, file-bank}
 
 -- ---- a frame arrives
 
@@ -110,6 +112,13 @@ module _ (m : LentSession) (a : FrameInput) where
         ∙ ap (journalNext m a)
         (ap (λ (c : LentFrameCall). c .answer) (lent-frame (bankIn m) a frame-sound) ∙ frame-answered .1)
 
+    -- and the counts
+    pub frame-counts-left : countsIn (sessionFrameCall m a .session .rows) ≡ countsOver w a (countsIn (m .rows))
+    frame-counts-left =
+        frame-counts m a frame-takes
+        ∙ ap (countsNext m a)
+        (ap (λ (c : LentFrameCall). c .answer) (lent-frame (bankIn m) a frame-sound) ∙ frame-answered .1)
+
 -- ---- a file goes into a mailbox
 
 pub file-numbered : (b : Bank) (m : ℕ) (file mailboxes : List ℕ) →
@@ -159,7 +168,7 @@ module _ (rows mailboxes : List ℕ) (m : ℕ) (file : List ℕ) where
   file-unsound e = at (ℕ-discrete (length rows) sessionSize)
     where
       at : Dec (length rows ≡ sessionSize) → sessionFileCall rows m file mailboxes .number ≡ 1
-      at (yes long) = ap numberIn (file-taken rows m file mailboxes long ∙ ap (withEvents (eventCount rows)) (unsound-refused e))
+      at (yes long) = ap numberIn (file-taken rows m file mailboxes long ∙ ap (withKept rows) (unsound-refused e))
       at (no n) = file-away n
 
   -- on rows that a call leaves the bank's call
@@ -169,8 +178,8 @@ module _ (rows mailboxes : List ℕ) (m : ℕ) (file : List ℕ) where
 
   module _ (long : length rows ≡ sessionSize) (sound : isSound (bankRows rows) ≡ true) where
     pub file-kept : sessionFileCall rows m file mailboxes
-        ≡ withEvents (eventCount rows) (keptFile (bankRows rows) (fileCall b m file mailboxes))
-    file-kept = file-taken rows m file mailboxes long ∙ ap (withEvents (eventCount rows)) (lent-file sound)
+        ≡ withKept rows (keptFile (bankRows rows) (fileCall b m file mailboxes))
+    file-kept = file-taken rows m file mailboxes long ∙ ap (withKept rows) (lent-file sound)
 
     pub file-number : sessionFileCall rows m file mailboxes .number ≡ fileNumber (fileCall b m file mailboxes .answer)
     file-number = ap numberIn file-kept ∙ file-numbered b m file mailboxes

@@ -1,4 +1,4 @@
--- What a session's calls leave: the bank's memory after its call, and the journal after it. Assumes nothing.
+-- What a session's calls leave: the bank's memory after its call, the journal and the counts. Assumes nothing.
 use Prim.Native.Nat.{ℕ, _<_}
 use mathlib.Core.Bool.{Bool, true, false}
 use mathlib.Core.List.{List}
@@ -25,8 +25,26 @@ use Rattle.bank.specs.Lent.{
 use Rattle.bank.proofs.Kept.{frame-sound, file-sound, file-unchanged}
 use Rattle.bank.proofs.Lent.{rows-refused}
 use Rattle.bank.proofs.Right.{late-refused}
-use Rattle.bank_session.specs.Session.{LentSession, session, sessionSize, bankRows, eventCount, bankIn, journalIn, SessionFrameCall, takesFrame, journalNext, withJournal, sessionTurnedAway, sessionFrameCall, withEvents, sessionFileCall}
-use Rattle.bank_session.proofs.Rows.{bank-long, parts, bank-of-both, count-of-both, both-long}
+use Rattle.bank_session.specs.Session.{
+  LentSession,
+  session,
+  sessionSize,
+  bankRows,
+  eventCount,
+  countsIn,
+  bankIn,
+  journalIn,
+  SessionFrameCall,
+  takesFrame,
+  journalNext,
+  countsNext,
+  withJournal,
+  sessionTurnedAway,
+  sessionFrameCall,
+  withKept,
+  sessionFileCall,
+}
+use Rattle.bank_session.proofs.Rows.{bank-long, parts, bank-of-both, count-of-both, counts-of-both, both-long}
 use Rattle.bank_session.proofs.Session.{takes-length, frame-refused, frame-taken}
 
 -- ---- a frame arrives
@@ -51,7 +69,7 @@ module _ (m : LentSession) (a : FrameInput) (taken : takesFrame m ≡ true) wher
   frame-bank =
       ap (λ (c : SessionFrameCall). bankIn (c .session)) (frame-taken m a taken)
       ∙ ap (λ (rows : List ℕ). lent rows (inner .lent .orders) (inner .lent .mailboxes))
-      (bank-of-both (inner .lent .rows) long (journalNext m a (inner .answer) .events))
+      (bank-of-both (inner .lent .rows) long (journalNext m a (inner .answer) .events) (countsNext m a (inner .answer)))
 
   -- and the journal
   pub frame-journal : journalIn (sessionFrameCall m a .session) ≡ journalNext m a (inner .answer)
@@ -59,12 +77,19 @@ module _ (m : LentSession) (a : FrameInput) (taken : takesFrame m ≡ true) wher
       let next = journalNext m a (inner .answer) in
       let of : ℕ → Journal = λ (n : ℕ). record { events = n; row = next .row } in
       ap (λ (c : SessionFrameCall). journalIn (c .session)) (frame-taken m a taken)
-      ∙ ap of (count-of-both (inner .lent .rows) long (next .events))
+      ∙ ap of (count-of-both (inner .lent .rows) long (next .events) (countsNext m a (inner .answer)))
+
+  -- and the counts
+  pub frame-counts : countsIn (sessionFrameCall m a .session .rows) ≡ countsNext m a (inner .answer)
+  frame-counts =
+      ap (λ (c : SessionFrameCall). countsIn (c .session .rows)) (frame-taken m a taken)
+      ∙ counts-of-both (inner .lent .rows) long (journalNext m a (inner .answer) .events)
+      (countsNext m a (inner .answer))
 
   pub frame-size : length (sessionFrameCall m a .session .rows) ≡ sessionSize
   frame-size =
       ap (λ (c : SessionFrameCall). length (c .session .rows)) (frame-taken m a taken)
-      ∙ both-long (inner .lent .rows) long (journalNext m a (inner .answer) .events)
+      ∙ both-long (inner .lent .rows) long (journalNext m a (inner .answer) .events) (countsNext m a (inner .answer))
 
 -- where the bank's own call leaves all as it was, so does the session's
 unchanged-with : (m : LentSession) (a : FrameInput) → lentFrameCall (bankIn m) a ≡ frameTurnedAway (bankIn m) a
@@ -109,7 +134,7 @@ file-long rows mailbox file mailboxes long = at (isSound rows) refl
 
 module _ (rows : List ℕ) (mailbox : ℕ) (file mailboxes : List ℕ) where
   pub file-taken : length rows ≡ sessionSize → sessionFileCall rows mailbox file mailboxes
-      ≡ withEvents (eventCount rows) (lentFileCall (bankRows rows) mailbox file mailboxes)
+      ≡ withKept rows (lentFileCall (bankRows rows) mailbox file mailboxes)
   unfolding sessionFileCall
   file-taken e = rw (eq-eqb (length rows) sessionSize e)
 
@@ -126,17 +151,25 @@ module _ (rows : List ℕ) (mailbox : ℕ) (file mailboxes : List ℕ) where
         lent (bankRows (c .rows)) orders (c .mailboxes) ≡ lent (put .rows) orders (put .mailboxes)
     file-bank orders =
         ap (λ (c : LentFileCall). lent (bankRows (c .rows)) orders (c .mailboxes)) (file-taken long)
-        ∙ ap (λ (l : List ℕ). lent l orders (put .mailboxes)) (bank-of-both (put .rows) as-long (eventCount rows))
+        ∙ ap (λ (l : List ℕ). lent l orders (put .mailboxes))
+        (bank-of-both (put .rows) as-long (eventCount rows) (countsIn rows))
 
     -- the number of events stays
     pub file-events : eventCount (sessionFileCall rows mailbox file mailboxes .rows) ≡ eventCount rows
     file-events =
         ap (λ (c : LentFileCall). eventCount (c .rows)) (file-taken long)
-        ∙ count-of-both (put .rows) as-long (eventCount rows)
+        ∙ count-of-both (put .rows) as-long (eventCount rows) (countsIn rows)
+
+    -- and so do the counts
+    pub file-counts : countsIn (sessionFileCall rows mailbox file mailboxes .rows) ≡ countsIn rows
+    file-counts =
+        ap (λ (c : LentFileCall). countsIn (c .rows)) (file-taken long)
+        ∙ counts-of-both (put .rows) as-long (eventCount rows) (countsIn rows)
 
     pub file-size : length (sessionFileCall rows mailbox file mailboxes .rows) ≡ sessionSize
     file-size =
-        ap (λ (c : LentFileCall). length (c .rows)) (file-taken long) ∙ both-long (put .rows) as-long (eventCount rows)
+        ap (λ (c : LentFileCall). length (c .rows)) (file-taken long)
+        ∙ both-long (put .rows) as-long (eventCount rows) (countsIn rows)
 
 -- a call given a number leaves all as it was, whatever the numbers are
 module _ (rows : List ℕ) (mailbox : ℕ) (file mailboxes : List ℕ) where
@@ -153,7 +186,7 @@ module _ (rows : List ℕ) (mailbox : ℕ) (file mailboxes : List ℕ) where
       let inner = lentFileCall (bankRows rows) mailbox file mailboxes in
       let same = file-unchanged (bankRows rows) mailbox file mailboxes
       (subst (λ (n : ℕ). 0 < n) (ap (λ (c : LentFileCall). c .number) taken) z) in
-      taken ∙ (ap (withEvents (eventCount rows)) same
+      taken ∙ (ap (withKept rows) same
       ∙ (ap (λ (l : List ℕ). lentFileCallOf (inner .answer) l mailboxes) (parts rows long)
       ∙ ap (λ (c : LentFileCall). lentFileCallOf (c .answer) rows mailboxes) (sym taken)))
 

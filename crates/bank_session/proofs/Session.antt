@@ -1,4 +1,4 @@
--- A frame call on a session: the bank's call, and the journal after it. Assumes nothing.
+-- A frame call on a session: the bank's call, and the journal and the counts after it. Assumes nothing.
 use Prim.Native.Nat.{ℕ, _+_, _≤_, _<_, _^_}
 use mathlib.Core.Bool.{Bool, true, false, cond, _&&_}
 use mathlib.Core.List.{List, []}
@@ -13,6 +13,8 @@ use Rattle.journal.specs.declared.event.Entry.{Entry}
 use Rattle.journal.specs.declared.event.Batch.{Batch}
 use Rattle.journal.specs.Events.{recordCount, maxEntries, eventsFrom, countOf, entriesIn}
 use Rattle.journal.specs.Row.{Journal, takesEvents, enteredAll, rowAfter}
+use Rattle.opening_counts.specs.declared.seven.Counts.{Counts}
+use Rattle.opening_counts.specs.Counts.{canGrow}
 use Rattle.bank_events.specs.Entries.{Holds}
 use Rattle.bank_steps.specs.Lent.{lent, stateOf}
 use Rattle.bank.specs.declared.call.FrameAnswer.{FrameAnswer}
@@ -22,7 +24,24 @@ use Rattle.bank.specs.Call.{FrameInput}
 use Rattle.bank.specs.Journal.{clockBy, enteredBy, ifAnswered, withEntries, journalAfter}
 use Rattle.bank.specs.Lent.{noReply, lentFrameCallOf, lentFrameCall}
 use Rattle.bank.proofs.Right.{and-last}
-use Rattle.bank_session.specs.Session.{LentSession, session, sessionSize, eventCount, bankIn, journalIn, withCount, sessionOf, sessionFrameCallOf, takesFrame, journalNext, withJournal, sessionTurnedAway, sessionFrameCall}
+use Rattle.bank_session.specs.Session.{
+  LentSession,
+  session,
+  sessionSize,
+  eventCount,
+  countsIn,
+  bankIn,
+  journalIn,
+  withNumbers,
+  sessionOf,
+  sessionFrameCallOf,
+  takesFrame,
+  journalNext,
+  countsNext,
+  withJournal,
+  sessionTurnedAway,
+  sessionFrameCall,
+}
 
 -- ---- batches
 
@@ -67,20 +86,33 @@ and-both : (a b : Bool) → a ≡ true → b ≡ true → a && b ≡ true
 and-both a b e f = rw (e, f)
 
 module _ (m : LentSession) where
+  abbrev long : Bool
+  long = eqb (length (m .rows)) sessionSize
+
   abbrev events : Bool
   events = takesEvents (length (m .row)) (eventCount (m .rows))
 
-  pub takes : length (m .rows) ≡ sessionSize → events ≡ true → takesFrame m ≡ true
-  takes e f = and-both (eqb (length (m .rows)) sessionSize) events (eq-eqb (length (m .rows)) sessionSize e) f
+  abbrev grow : Bool
+  grow = canGrow (countsIn (m .rows))
+
+  pub takes : length (m .rows) ≡ sessionSize → events ≡ true → grow ≡ true → takesFrame m ≡ true
+  takes e f g = and-both (long && events) grow (and-both long events (eq-eqb (length (m .rows)) sessionSize e) f) g
 
   pub takes-length : takesFrame m ≡ true → length (m .rows) ≡ sessionSize
-  takes-length h = eqb-true (length (m .rows)) sessionSize (and-true (eqb (length (m .rows)) sessionSize) events h .0)
+  takes-length h =
+      eqb-true (length (m .rows)) sessionSize (and-true long events (and-true (long && events) grow h .0) .0)
 
   pub takes-events : takesFrame m ≡ true → events ≡ true
-  takes-events h = and-true (eqb (length (m .rows)) sessionSize) events h .1
+  takes-events h = and-true long events (and-true (long && events) grow h .0) .1
+
+  pub takes-counts : takesFrame m ≡ true → grow ≡ true
+  takes-counts h = and-true (long && events) grow h .1
 
   pub not-taken : events ≡ false → takesFrame m ≡ false
-  not-taken e = and-last (eqb (length (m .rows)) sessionSize) events e
+  not-taken e = ap (λ (t : Bool). t && grow) (and-last long events e)
+
+  pub not-grown : grow ≡ false → takesFrame m ≡ false
+  not-grown e = and-last (long && events) grow e
 
 pub takes-in : (records n : ℕ) → records ≡ recordCount → n + maxEntries < 2 ^ 64 → takesEvents records n ≡ true
 takes-in records n e h =
@@ -120,17 +152,19 @@ module _ (m : LentSession) (a : FrameInput) where
       let none : eventCount (m .rows) ≡ eventCount (m .rows) + 0 = omega arith in
       ap of none
 
-  pub frame-done : takesFrame m ≡ true → {out : FrameOut} {x o b buffer rows : List ℕ} {batch : Batch} {clock : ℕ}
+  pub frame-done : takesFrame m ≡ true
+      → {out : FrameOut} {x o b buffer rows : List ℕ} {batch : Batch} {clock : ℕ} {counts : Counts}
       → lentFrameCallOf out (lent x o b) buffer ≡ lentFrameCall (bankIn m) a
       → Holds batch (ifAnswered (out .answer) (enteredBy (stateOf (bankIn m)) a)) → clock ≡ clockBy (stateOf (bankIn m)) a
-      → rows ≡ withCount x (eventCount (m .rows) + batch .count)
+      → counts ≡ countsNext m a (out .answer) → rows ≡ withNumbers x (eventCount (m .rows) + batch .count) counts
       → sessionFrameCallOf out (session rows (rowAfter (eventCount (m .rows)) clock batch (m .row)) o b) buffer
       ≡ sessionFrameCall m a
-  frame-done t {out} {x} {o} {b} {buffer} {rows} {batch} {clock} e h c r =
+  frame-done t {out} {x} {o} {b} {buffer} {rows} {batch} {clock} {counts} e h c k r =
       let n = eventCount (m .rows) in
       let j : _≡_ {A = Journal} (record { events = n + batch .count; row = rowAfter n clock batch (m .row) })
       (journalNext m a (out .answer)) =
       rw (some-row batch n clock (m .row) (takes-events m t), h .entries, h .count, c) (sym (next-is (out .answer))) in
       ap (λ (l : List ℕ). sessionFrameCallOf out (session l (rowAfter n clock batch (m .row)) o b) buffer) r
-      ∙ (ap (λ (k : Journal). sessionFrameCallOf out (sessionOf (lent x o b) k) buffer) j
-      ∙ (ap (withJournal m a) e ∙ sym (frame-taken t)))
+      ∙ (ap (λ (y : Journal). sessionFrameCallOf out (sessionOf (lent x o b) y counts) buffer) j
+      ∙ (ap (λ (y : Counts). sessionFrameCallOf out (sessionOf (lent x o b) (journalNext m a (out .answer)) y) buffer) k
+      ∙ (ap (withJournal m a) e ∙ sym (frame-taken t))))

@@ -1,2 +1,3 @@
--- The definitions of the host's calls on a session.
+-- The definitions of the host's calls on a session, and of the counts after a frame call.
+pub mod Counts
 pub mod Session

@@ -1,10 +1,12 @@
 // The host's calls on a session: a frame arrives, and a file goes into a mailbox. `frame_arrives` alone has the
 // journal's row; what it calls has its length, and serves rows that are held as numbers.
+use crate::counted::answer_counted;
 use crate::layout::EVENTS_AT;
 use crate::layout::SESSION_SIZE;
+use crate::numbers::counts_in;
+use crate::numbers::set_numbers;
 use bank::call::FrameAnswer;
 use bank::call::FrameOut;
-use bank::call::answer_frame;
 use bank::mailbox::FileAnswer;
 use bank_clock::clock::larger;
 use bank_events::actions::no_events;
@@ -14,6 +16,7 @@ use journal::event::Batch;
 use journal::event::Event;
 use journal::event::RECORD_COUNT;
 use journal::row::enter;
+use opening_counts::seven::can_grow;
 ghost use mathlib.Core.Path.{_≡_};
 ghost use mathlib.Core.List.{List, []};
 ghost use lib.ListN.{length};
@@ -86,8 +89,12 @@ pub fn frame_core(
     if !takes_events(records, before) {
         return turned_away();
     }
+    let counts = counts_in(rows);
+    if !can_grow(counts) {
+        return turned_away();
+    }
     let clock = larger(rows[CLOCK_AT], time);
-    let step = answer_frame(
+    let step = answer_counted(
         &mut rows[..STATE_SIZE],
         time,
         ids,
@@ -95,10 +102,11 @@ pub fn frame_core(
         orders,
         mailboxes,
         buffer,
+        counts,
     );
     let out = step.out;
     let batch = step.batch;
-    rows[EVENTS_AT] = before + batch.count;
+    set_numbers(rows, before + batch.count, step.counts);
     FrameCore {
         out,
         before,

@@ -34,7 +34,7 @@ use Rattle.print.specs.Book.{orderColumns}
 use Rattle.print.proofs.Digits.{decimal-most, column-most}
 use Rattle.print.proofs.Texts.{put-then, put-one, cond-most}
 use Rattle.print.specs.Closing.{closingRoom}
-use Rattle.print.proofs.Lengths.{day-most, order-name-most, closing-most, columns-most}
+use Rattle.print.proofs.Lengths.{day-most, order-name-most, closing-most, columns-most, counts-most}
 use Rattle.unit_state.specs.declared.answer.Answer.{Answer}
 use Rattle.unit_state.specs.declared.answer.Answer.the-variants as answer
 use Rattle.unit_state.specs.declared.state.Run.{Run}
@@ -143,6 +143,7 @@ answer-most (answer.Day d) buffer room = omega (arith, day-most d)
 answer-most answer.Line buffer room = omega arith
 answer-most (answer.Out n) buffer room = omega (arith, decimal-most n)
 answer-most (answer.OutAndHeld n k) buffer room = omega (arith, out-most n (take k buffer), length-take k buffer)
+answer-most (answer.Counted c) buffer room = omega (arith, counts-most c)
 answer-most (answer.Number n) buffer room = omega (arith, decimal-most n)
 answer-most answer.NoCall buffer room = omega arith
 

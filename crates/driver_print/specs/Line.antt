@@ -8,6 +8,7 @@ use Rattle.octets.specs.Bytes.{number}
 use Rattle.print.specs.Text.{ascii, maxDigits, decimal, space, newline, column, columnRoom}
 use Rattle.print.specs.Day.{dayText}
 use Rattle.print.specs.Closing.{closingText}
+use Rattle.print.specs.Seven.{countsText, countsRoom}
 use Rattle.unit_state.specs.declared.answer.Answer.{Answer}
 use Rattle.unit_state.specs.declared.answer.Answer.the-variants.{
   Frame,
@@ -23,6 +24,7 @@ use Rattle.unit_state.specs.declared.answer.Answer.the-variants.{
   Line,
   Out,
   OutAndHeld,
+  Counted,
   Number,
   NoCall,
 }
@@ -67,6 +69,7 @@ answerText (Day d) buffer room = ascii "day " ++ dayText d
 answerText Line buffer room = ascii "line"
 answerText (Out n) buffer room = ascii "out " ++ decimal n
 answerText (OutAndHeld n k) buffer room = outText n (take k buffer)
+answerText (Counted c) buffer room = ascii "counts " ++ countsText c
 answerText (Number n) buffer room = ascii "number " ++ decimal n
 answerText NoCall buffer room = []
 
@@ -75,7 +78,7 @@ unfoldable pub lineOf : ℕ → Answer → List ℕ → List ℕ → List ℕ
 lineOf n a buffer room = column n space ++ (answerText a buffer room ++ (newline ∷ []))
 
 -- the most bytes that an image's length and digest take, what comes out with a held message of n bytes, an answer with a
--- buffer of b bytes ("away " and its two numbers is the longest word), and a line
+-- buffer of b bytes ("counts " and the seven are the longest words), and a line
 abbrev pub awayRoom : ℕ
 awayRoom = 5 + columnRoom + maxDigits
 
@@ -83,7 +86,7 @@ abbrev pub outRoom : ℕ → ℕ
 outRoom n = 4 + columnRoom + 1 + 2 * n
 
 abbrev pub answerRoom : ℕ → ℕ
-answerRoom b = awayRoom + 2 * b
+answerRoom b = 7 + countsRoom + 2 * b
 
 abbrev pub lineRoom : ℕ → ℕ
 lineRoom b = columnRoom + answerRoom b + 1

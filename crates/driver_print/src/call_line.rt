@@ -3,6 +3,8 @@ use crate::digest::digest;
 use octets::bytes::front;
 use print::closing::put_closing;
 use print::day::put_day;
+use print::seven::COUNTS_ROOM;
+use print::seven::put_counts;
 use print::text::put_byte;
 use print::text::put_column;
 use print::text::put_decimal;
@@ -17,7 +19,7 @@ ghost use Rattle.driver_print.specs.Line.{hexDigit, hexOf, awayText, mes
 ghost use Rattle.driver_print.specs.Line.{awayRoom, outRoom, answerRoom, lineRoom};
 
 // The most bytes of a line but for those of a reply, a request or a message.
-const LINE_BYTES: usize = 21 + 5 + 21 + 20 + 1;
+const LINE_BYTES: usize = 21 + 7 + COUNTS_ROOM + 1;
 
 // The character of a hexadecimal digit.
 fn hex_digit(d: u8) -> u8
@@ -117,6 +119,10 @@ fn put_answer(output: &mut [u8], at: usize, answer: Answer, buffer: &[u8], room:
             put_decimal(output, a, copies)
         }
         Answer::OutAndHeld(copies, n) => put_out(output, at, copies, front(buffer, n)),
+        Answer::Counted(c) => {
+            let a = put_text(output, at, b"counts ");
+            put_counts(output, a, c)
+        }
         Answer::Number(n) => {
             let a = put_text(output, at, b"number ");
             put_decimal(output, a, n)

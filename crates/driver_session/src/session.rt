@@ -1,8 +1,11 @@
 // The driver's session: each record from standard input, its line to standard output; at the end the closing tables.
 use bank_rows::layout::STATE_SIZE;
 use bank_session::layout::SESSION_SIZE;
+use bank_session::report::CountAnswer;
+use bank_session::report::count_openings;
 use bank_state::limits::STORE_BYTES;
 use driver_print::call_line::line;
+use driver_print::counts_table::counts_table;
 use driver_print::tables::TABLE_ROOM;
 use driver_print::tables::Table;
 use driver_print::tables::table_of;
@@ -203,6 +206,20 @@ fn close_table(
     io::write_all(STDOUT_FILENO, front(output, n));
 }
 
+// The table of the counts into the output, and its length; numbers that get number 1 have none.
+fn counts_into(answer: CountAnswer, output: &mut [u8]) -> usize {
+    match answer {
+        CountAnswer::Counted(c) => counts_table(c, output),
+        CountAnswer::WrongLength => 0,
+    }
+}
+
+// Writes the counts that the session's call gives.
+fn close_counts(output: &mut [u8], rows: &[u64]) {
+    let n = counts_into(count_openings(rows), output);
+    io::write_all(STDOUT_FILENO, front(output, n));
+}
+
 // Writes the closing tables.
 fn close(
     u: UnitState,
@@ -219,6 +236,7 @@ fn close(
     close_table(Table::Words, u, output, rows, orders, mailboxes, files);
     close_table(Table::Files, u, output, rows, orders, mailboxes, files);
     close_table(Table::Journal, u, output, rows, orders, mailboxes, files);
+    close_counts(output, rows);
 }
 
 // Makes the calls of all records, prints, and gives what the session leaves.

@@ -12,8 +12,9 @@ use Rattle.journal.specs.Row.{takesEvents}
 use Rattle.bank_sound.specs.Sound.{isSound}
 use Rattle.bank.specs.Call.{FrameInput}
 use Rattle.bank.proofs.Right.{and-last}
-use Rattle.bank_session.specs.Session.{LentSession, sessionSize, bankRows, eventCount, takesFrame}
-use Rattle.bank_session.proofs.Session.{not-taken}
+use Rattle.opening_counts.specs.Counts.{canGrow}
+use Rattle.bank_session.specs.Session.{LentSession, sessionSize, bankRows, eventCount, countsIn, takesFrame}
+use Rattle.bank_session.proofs.Session.{not-taken, not-grown}
 use Rattle.exchange.specs.Course.{Call, frameArrives, filePut, Course, callNumber, exec}
 use Rattle.exchange.specs.Terms.{InTurn}
 use Rattle.exchange.specs.Demand3.{Allowed}
@@ -34,6 +35,8 @@ pub data TurnedAway : Call → Type 0 where
   row-length : {m : LentSession} {a : FrameInput} → (length (m .row) ≡ recordCount → ⊥) → TurnedAway (frameArrives m a)
   -- no room for the numbers of its events
   no-room : {m : LentSession} {a : FrameInput} → 2 ^ 64 ≤ eventCount (m .rows) + maxEntries → TurnedAway (frameArrives m a)
+  -- a count that cannot grow
+  no-count : {m : LentSession} {a : FrameInput} → canGrow (countsIn (m .rows)) ≡ false → TurnedAway (frameArrives m a)
 
 module _ (m : LentSession) where
   abbrev events : ℕ
@@ -56,6 +59,7 @@ away-number (frame-rows {m} {a} e) = frame-unsound m a e
 away-number (file-rows {rows} {mailboxes} {m} {file} e) = file-unsound rows mailboxes m file e
 away-number (row-length {m} {a} n) = frame-away m a (not-taken m (other-row m n))
 away-number (no-room {m} {a} h) = frame-away m a (not-taken m (full-row m h))
+away-number (no-count {m} {a} e) = frame-away m a (not-grown m e)
 
 module _ {k : Call} (away : TurnedAway k) where
   pub away-allowed : (s : Course) → Allowed k s

@@ -1,7 +1,7 @@
 -- The host's calls as the bank's own: the course after one is the course after the bank's call on the bank and the
 -- journal that its memory is. Assumes nothing.
 use Prim.Native.Nat.{ℕ}
-use mathlib.Core.Bool.{Bool, true, false, cond}
+use mathlib.Core.Bool.{Bool, true, false, cond, _&&_}
 use mathlib.Core.List.{List}
 use mathlib.Core.Path.{_≡_, sym, ap, _∙_, refl}
 use native.Mathlib.Decide.{ℕ-discrete}
@@ -17,9 +17,11 @@ use Rattle.bank_steps.specs.Lent.{stateOf}
 use Rattle.bank.specs.Call.{FrameInput, frameNumber, frameCall}
 use Rattle.bank.specs.Journal.{journalAfter}
 use Rattle.bank.specs.Mailbox.{fileNumber, fileCall}
+use Rattle.opening_counts.specs.Counts.{canGrow}
 use Rattle.bank_session.specs.Session.{
   LentSession,
   sessionSize,
+  countsIn,
   bankRows,
   bankIn,
   journalIn,
@@ -27,7 +29,7 @@ use Rattle.bank_session.specs.Session.{
   sessionFrameCall,
   eventCount,
 }
-use Rattle.bank_session.proofs.Session.{takes, not-taken}
+use Rattle.bank_session.proofs.Session.{takes, not-taken, not-grown}
 use Rattle.bank_session.proofs.Host.{
   frame-numbered,
   frame-away,
@@ -65,6 +67,10 @@ frameLeft w j a s =
     withJournal (journalAfter w a j)
     (afterFrame (replyIn (k .answer) (k .buffer)) (k .bankState) (advanced (a .time) w) (a .frame) s)
 
+-- there is room for nine events more, and each count can grow
+abbrev pub grows : LentSession → Bool
+grows m = takesEvents (length (m .row)) (eventCount (m .rows)) && canGrow (countsIn (m .rows))
+
 module _ (m : LentSession) (a : FrameInput) where
   abbrev w : BankState
   w = stateOf (bankIn m)
@@ -84,20 +90,20 @@ module _ (m : LentSession) (a : FrameInput) where
   -- the course after the call, by the bank's own
   pub frame-exec : length (m .rows) ≡ sessionSize → isSound (bankRows (m .rows)) ≡ true → (s : Course) →
       exec (frameArrives m a) s
-      ≡ cond (eqb (cond (takesEvents (length (m .row)) (eventCount (m .rows))) (frameNumber (frameCall w a .answer)) 1) 0)
-      (frameLeft w (journalIn m) a s) s
+      ≡ cond (eqb (cond (grows m) (frameNumber (frameCall w a .answer)) 1) 0) (frameLeft w (journalIn m) a s) s
   frame-exec long sound s = at (ℕ-discrete (callNumber (frameArrives m a)) 0)
     where
       n : ℕ
-      n = cond (takesEvents (length (m .row)) (eventCount (m .rows))) (frameNumber (frameCall w a .answer)) 1
+      n = cond (grows m) (frameNumber (frameCall w a .answer)) 1
 
       number-is : callNumber (frameArrives m a) ≡ n
-      number-is = by (takesEvents (length (m .row)) (eventCount (m .rows))) refl
+      number-is = by (takesEvents (length (m .row)) (eventCount (m .rows))) (canGrow (countsIn (m .rows))) refl refl
         where
-          by : (t : Bool) → takesEvents (length (m .row)) (eventCount (m .rows)) ≡ t →
-              callNumber (frameArrives m a) ≡ cond t (frameNumber (frameCall w a .answer)) 1
-          by true e = ap number (frame-kept m a (takes m long e) sound) ∙ frame-numbered w a
-          by false e = frame-away m a (not-taken m e)
+          by : (t u : Bool) → takesEvents (length (m .row)) (eventCount (m .rows)) ≡ t → canGrow (countsIn (m .rows)) ≡ u →
+              callNumber (frameArrives m a) ≡ cond (t && u) (frameNumber (frameCall w a .answer)) 1
+          by true true e f = ap number (frame-kept m a (takes m long e f) sound) ∙ frame-numbered w a
+          by true false e f = frame-away m a (not-grown m f)
+          by false u e f = frame-away m a (not-taken m e)
 
       at : Dec (callNumber (frameArrives m a) ≡ 0) →
           exec (frameArrives m a) s ≡ cond (eqb n 0) (frameLeft w (journalIn m) a s) s

@@ -81,7 +81,7 @@ Left i c l s = (c ≡ s .runs i) × (l .payload ≡ s .payloads i) × (l .file �
 -- call given no number did. "Demand 3 covers a resumed session when nothing ran between the writing and the taking up":
 -- the image is one that the list wrote, no frame or file call given no number stands between, and the session lent is
 -- free; "no image is taken up twice" is not asked, as the session taken up is the one that stands. A file call may be
--- lent any number of events, which it leaves
+-- lent any number of events, which it leaves, and every call any counts
 abbrev pub Premise : Call → Course → Type 0
 Premise (frameArrives m a) s = (stateOf (bankIn m) ≡ s .bank) × (journalIn m ≡ s .journal)
     × (isSubscribers (a .frame) ≡ true → (i : ℕ) × IssuedBy i (a .frame) s)

@@ -31,7 +31,8 @@ use Rattle.bank_admitted.specs.State.{StateHolds}
 use Rattle.bank_history.specs.Signatures.{sameName}
 use Rattle.bank_rows.specs.Layout.{stateSize}
 use Rattle.bank_steps.specs.Lent.{stateOf}
-use Rattle.bank_session.specs.Session.{LentSession, session, sessionSize, withCount, bankIn, journalIn}
+use Rattle.opening_counts.specs.Counts.{seven, noCounts, mostMoved}
+use Rattle.bank_session.specs.Session.{LentSession, session, sessionSize, withNumbers, bankIn, journalIn}
 use Rattle.image_calls.specs.declared.calls.TakenUp.the-variants as taken
 use Rattle.image_calls.specs.Calls.{imageLength, lengthsRight, putAway, TakeUp, takeUpOf, takeUp}
 use Rattle.client_run.specs.declared.run.Direction.the-variants.{Upload, Download}
@@ -148,7 +149,7 @@ abbrev unsound : List ℕ
 unsound = replicate sessionSize (placeCount + 1)
 
 -- a host's calls turned away at the door, given number 1: numbers of another length and numbers that no call leaves, of
--- a file call and a frame call; a row of another length; no room for the numbers of its events
+-- a file call and a frame call; a row of another length; no room for the numbers of its events; counts that cannot grow
 abbrev atDoor : List Move
 atDoor =
     numbered (filePut [] (replicate storeBytes 0) 1 (66 ∷ []))
@@ -156,7 +157,9 @@ atDoor =
     ∷ numbered (frameArrives (memory [] emptyRow) (inputAt 1000 []))
     ∷ numbered (frameArrives (memory unsound emptyRow) (inputAt 1000 []))
     ∷ numbered (frameArrives (memory (replicate sessionSize 0) []) (inputAt 1000 []))
-    ∷ numbered (frameArrives (memory (withCount (replicate stateSize 0) (2 ^ 64 - maxEntries)) emptyRow) (inputAt 1000 []))
+    ∷ numbered (frameArrives (memory (withNumbers (replicate stateSize 0) (2 ^ 64 - maxEntries) noCounts) emptyRow) (inputAt 1000 []))
+    ∷ numbered (frameArrives (memory (withNumbers (replicate stateSize 0) 0 (seven (λ (i : ℕ). 2 ^ 64 - mostMoved))) emptyRow)
+    (inputAt 1000 []))
     ∷ []
 
 -- an upload of 257 bytes beside one of a second subscriber

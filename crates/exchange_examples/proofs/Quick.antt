@@ -30,7 +30,9 @@ use Rattle.exchange.specs.Course.{
 }
 use Rattle.exchange.specs.Demand3.{Allowed}
 use Rattle.exchange.proofs.Calls.{numbered-stays, carried, by-number}
-use Rattle.exchange.proofs.Host.{frame-exec, fileLeft, file-exec}
+use Rattle.bank_steps.specs.Lent.{stateOf}
+use Rattle.bank_session.specs.Session.{bankIn, journalIn}
+use Rattle.exchange.proofs.Host.{frameLeft, frame-exec, fileLeft, file-exec}
 use Rattle.exchange.proofs.Images.{taken-stays}
 use Rattle.exchange_examples.proofs.Standing.{
   standing,
@@ -39,6 +41,7 @@ use Rattle.exchange_examples.proofs.Standing.{
   standing-numbers,
   standing-bank,
   standing-journal,
+  standing-grows,
   Right,
   right-start,
   right-next,
@@ -138,7 +141,9 @@ quick-frame s v time frame =
     ap (λ (k : FrameCall). framed k (s .bank) (s .journal) a s) (quick-call (s .bank) (v .sizes) a
     (length-replicate {A = ℕ} idBytes 0) (omega (arith, length-replicate {A = ℕ} replyRoom 0)))
     ∙ sym (frame-exec (standing s) a (standing-long s v) (standing-sound s v) s
-    ∙ (λ x. framed (frameCall (w x) a) (w x) (j x) a s))
+    ∙ (ap (λ (g : Bool). cond (eqb (cond g (frameNumber (frameCall (stateOf (bankIn (standing s))) a .answer)) 1) 0)
+    (frameLeft (stateOf (bankIn (standing s))) (journalIn (standing s)) a s) s) (standing-grows s v)
+    ∙ (λ x. framed (frameCall (w x) a) (w x) (j x) a s)))
 
 quick-file : (s : Course) → StateHolds (s .bank) → (m : ℕ) (file : List ℕ) →
     filed (s .bank .bank) (s .bank .mailboxes) m file s ≡ next (puts m file) s

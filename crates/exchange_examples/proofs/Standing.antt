@@ -1,12 +1,18 @@
 -- The session as it stands, in memory: its rows are such as a call leaves, so that a host's call on it is the bank's
--- own on the bank and the journal that stand. Assumes nothing.
-use Prim.Native.Nat.{ℕ}
-use mathlib.Core.Bool.{true}
+-- own on the bank and the journal that stand; its counts are some that fit the bank. Assumes nothing.
+use Prim.Native.Nat.{ℕ, _+_, _-_, _≤_, _^_}
+use mathlib.Core.Bool.{Bool, true, false, _&&_}
 use mathlib.Core.List.{List, [], _∷_, List·Memᴰ·not-nil as in-none}
-use mathlib.Core.Path.{_≡_, sym, ap, _∙_, subst}
+use mathlib.Core.Path.{_≡_, refl, sym, ap, _∙_, subst}
+use native.Mathlib.Omega.{arith}
 use lib.ListN.{length, replicate}
-use Rattle.journal.specs.Row.{Journal}
+use borrow.Author.Tests.{lt-ltb}
+use Rattle.journal.specs.Row.{Journal, takesEvents}
+use Rattle.bank_state.specs.declared.state.Place.{Place}
+use Rattle.bank_state.specs.Limits.{maxOpenings}
+use Rattle.bank_state.specs.Search.{isBooked, openCount}
 use Rattle.bank_state.specs.State.{Bank, BankState, bankState}
+use Rattle.bank_state.proofs.Rows.{count-le}
 use Rattle.bank_rows.specs.Layout.{stateSize}
 use Rattle.bank_rows.specs.State.{bankOf, stored, Laid, Held}
 use Rattle.bank_rows.proofs.State.{stored-back, stored-laid}
@@ -15,8 +21,11 @@ use Rattle.bank_sound.proofs.Range.{zeros-sound}
 use Rattle.bank_sound.proofs.Test.{sound-laid, stored-sound}
 use Rattle.bank_steps.specs.Lent.{lent, stateOf}
 use Rattle.bank.specs.Call.{frameCall}
-use Rattle.bank_session.specs.Session.{LentSession, sessionSize, bankRows, sessionOf, bankIn, journalIn}
-use Rattle.bank_session.proofs.Rows.{bank-of-both, count-of-both, both-long}
+use Rattle.opening_counts.specs.declared.seven.Counts.{Counts}
+use Rattle.opening_counts.specs.Counts.{mostMoved, fits, canGrow}
+use Rattle.bank_session.specs.Session.{LentSession, sessionSize, bankRows, eventCount, sessionOf, bankIn, journalIn}
+use Rattle.bank_session.proofs.Rows.{bank-of-both, count-of-both, counts-of-both, both-long}
+use Rattle.bank_admitted.specs.Counts.{bookedOrders}
 use Rattle.bank_admitted.specs.State.{StateHolds}
 use Rattle.bank_admitted.proofs.Fresh.{fresh-state}
 use Rattle.bank_admitted.proofs.InRange.{state-in-range}
@@ -41,14 +50,34 @@ use Rattle.exchange.specs.Course.{
 }
 use Rattle.exchange.specs.Demand3.{Premise, Allowed, AllAllowed}
 use Rattle.exchange.proofs.Calls.{by-number}
-use Rattle.exchange.proofs.Host.{host-frame, host-file}
+use Rattle.exchange.proofs.Host.{grows, host-frame, host-file}
 use Rattle.exchange.proofs.Images.{Written, put-written, taken-stays}
 
 abbrev numbers : Course → List ℕ
 numbers s = stored (s .bank .bank) (replicate stateSize 0)
 
+-- a course has no counts: these fit its bank, as if all that is neither open nor booked had been dropped
+abbrev fitting : Bank → Counts
+fitting b = record {
+  pending = openCount b;
+  booked = bookedOrders b;
+  fetched = 0;
+  skipped = 0;
+  ended = 0;
+  cancelled = 0;
+  dropped = b .openings - openCount b - bookedOrders b;
+}
+
 abbrev pub standing : Course → LentSession
-standing s = sessionOf (lent (numbers s) (s .bank .orders) (s .bank .mailboxes)) (s .journal)
+standing s = sessionOf (lent (numbers s) (s .bank .orders) (s .bank .mailboxes)) (s .journal) (fitting (s .bank .bank))
+
+and-yes : (t : Bool) → t && true ≡ t
+and-yes true = refl
+and-yes false = refl
+
+one-fits : (n : ℕ) → n ≤ maxOpenings → fits n ≡ true
+unfolding fits
+one-fits n h = lt-ltb (n + mostMoved) (2 ^ 64) (omega (arith, h))
 
 module _ (s : Course) (v : StateHolds (s .bank)) where
   zeros-laid : Laid (replicate stateSize 0)
@@ -61,10 +90,32 @@ module _ (s : Course) (v : StateHolds (s .bank)) where
   long = stored-laid (s .bank .bank) held (replicate stateSize 0) zeros-laid .long
 
   rows-are : bankRows (standing s .rows) ≡ numbers s
-  rows-are = bank-of-both (numbers s) long (s .journal .events)
+  rows-are = bank-of-both (numbers s) long (s .journal .events) (fitting (s .bank .bank))
 
   pub standing-long : length (standing s .rows) ≡ sessionSize
-  standing-long = both-long (numbers s) long (s .journal .events)
+  standing-long = both-long (numbers s) long (s .journal .events) (fitting (s .bank .bank))
+
+  fitting-grows : canGrow (fitting (s .bank .bank)) ≡ true
+  unfolding canGrow
+  fitting-grows =
+      let b = s .bank .bank in
+      let few = v .openAll in
+      let most = count-le (λ (p : Place). isBooked (p .used)) (b .places) in
+      let places = v .sizes .places in
+      let opened = v .numbers in
+      rw (
+        one-fits (openCount b) (omega (arith, few)),
+        one-fits (bookedOrders b) (omega (arith, most, places)),
+        one-fits 0 (omega arith),
+        one-fits (b .openings - openCount b - bookedOrders b) (omega (arith, opened)),
+      )
+
+  -- each of its counts can grow
+  pub standing-grows : grows (standing s) ≡ takesEvents (length (standing s .row)) (eventCount (standing s .rows))
+  standing-grows =
+      let room = takesEvents (length (standing s .row)) (eventCount (standing s .rows)) in
+      let seven = counts-of-both (numbers s) long (s .journal .events) (fitting (s .bank .bank)) in
+      ap (λ (u : Bool). room && u) (ap canGrow seven ∙ fitting-grows) ∙ and-yes room
 
   -- such as a call leaves
   pub standing-sound : isSound (bankRows (standing s .rows)) ≡ true
@@ -81,7 +132,7 @@ module _ (s : Course) (v : StateHolds (s .bank)) where
   pub standing-journal : journalIn (standing s) ≡ s .journal
   standing-journal =
       let of : ℕ → Journal = λ (n : ℕ). record { events = n; row = s .journal .row } in
-      ap of (count-of-both (numbers s) long (s .journal .events))
+      ap of (count-of-both (numbers s) long (s .journal .events) (fitting (s .bank .bank)))
 
 -- ---- over allowed calls
 

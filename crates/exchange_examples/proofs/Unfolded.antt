@@ -24,6 +24,8 @@ use Rattle.bank_signing.specs.Signings as signings
 use Rattle.bank_uploads.specs.Uploads as uploads
 use Rattle.bank_sound.specs.Sound as soundRows
 use Rattle.bank.specs.Lent as bankLent
+use Rattle.opening_counts.specs.Counts as sevenCounts
+use Rattle.bank_session.specs.Counts as sessionCounts
 use Rattle.bank_session.specs.Session as hostCalls
 use Rattle.bank.specs.Call as bankCall
 use Rattle.bank.specs.Mailbox as bankMailbox
@@ -100,7 +102,7 @@ unfolding frameBytes.numberFrom frameBytes.number frameBytes.bytesOf frameBytes.
     bankEntries.droppedUploads bankEntries.actionEntries bankEntries.callEntries bankJournal.enteredBy
     bankJournal.journalAfter clientJournal.answerTo clientJournal.journalCall soundRows.isSoundUpload
     soundRows.isSound bankrowsRows.allBelow bankLent.lentFrameCall bankLent.lentFileCall hostCalls.sessionFrameCall
-    hostCalls.sessionFileCall
+    hostCalls.sessionFileCall sessionCounts.countsOver sevenCounts.fits sevenCounts.canGrow
 bothEnds = tt
 
 -- putting away
@@ -118,9 +120,10 @@ unfolding bankrowsState.bankOf bankrowsState.joined bankrowsState.stored bankrow
     conditions.nonceTest conditions.downloadTest conditions.placeTest conditions.mailboxTest conditions.eventTest
     conditions.everySeries conditions.everyNonce conditions.everyDownload conditions.everyPlace conditions.everyMailbox
     conditions.everySubscriber conditions.everyEvent conditions.seriesConditions conditions.nonceConditions
-    conditions.downloadConditions conditions.openConditions conditions.journalConditions conditions.conditions
+    conditions.downloadConditions conditions.openConditions conditions.journalConditions conditions.countsOpen
+    conditions.isBookedPlace conditions.countsBooked conditions.countsSum conditions.countConditions conditions.conditions
     conditions.admitted recordsLayout.nonceAt recordsLayout.downloadAt recordsLayout.placeAt
-    recordsLayout.eventAt recordsLayout.counterAt recordsLayout.counterOf recordsLayout.fileAt
+    recordsLayout.eventAt recordsLayout.counterAt recordsLayout.counterOf recordsLayout.fileAt recordsLayout.countAt
     recordsLayout.fileOf recordsShapes.every recordsShapes.count recordsShapes.total
     recordsShapes.distinct recordsShapes.allZero numbersTable.groupAt numbersTable.partPlaces
     numbersTable.recordPlaces numbersTable.recordsFrom numbersTable.groupPlaces numbersTable.groupsFrom

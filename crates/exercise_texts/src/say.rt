@@ -10,7 +10,8 @@ use print::text::code_digits;
 use print::text::put_order_number;
 
 // What the digits stand for: 0 the call, 1 the client run or a signed order's owner, 2 the subscriber, 3 bytes, 4 a
-// segment, 5 segments, 6 the exchange number, 7 an order number, 8 a return code, 9 " (last)" where the last mark is 1.
+// segment, 5 segments, 6 the exchange number, 7 an order number, 8 a return code, 9 " (last)" where the last mark is 1;
+// of the counts 0 to 6 the seven, and 0 their sum.
 pub const VALUES: usize = 10;
 
 // Prints an order number, given as the number of field 0E.
@@ -73,7 +74,7 @@ fn say_keyed(table: &[u8], key: u8, v: [u64; VALUES]) {
 // repeats one, C the code of a reply, O, S, Y, K, L, I, 8, m, y and z the codes' names in Annex 1; x, l, r and t for
 // what became of a message, H for the hour; i, q, w and n for what the call answered; u and d for a run's row in
 // exercise C, o for a run that has not ended, B, Z and X for what the bank has, V and W for whether the closing word is
-// true, v for an order and its day.
+// true, v for an order and its day, # for where every opening ended, = for how many they are.
 pub fn say(key: u8, v: [u64; VALUES]) {
     say_keyed(
         b"\
@@ -137,6 +138,8 @@ pub fn say(key: u8, v: [u64; VALUES]) {
             V; true\n\
             W; false\n\
             v2 FUL 7 is executed on \n\
+            #openings: 0 open, 1 booked, 2 fetched, 3 skipped, 4 ended by another receipt, 5 cancelled, 6 dropped\n\
+            =; 0 in all\n\
             ",
         key,
         v,

@@ -31,6 +31,7 @@ use libc::STDOUT_FILENO;
 use line::layout::ROW_SIZE as LINE_SIZE;
 use line::layout::STORE_BYTES as LINE_BYTES;
 use results::say_book;
+use results::say_counts;
 use results::say_days;
 use results::say_handed;
 use results::say_results;
@@ -65,7 +66,7 @@ fn bank_numbers(rows: &[u64; SESSION_SIZE]) -> [u64; STATE_SIZE] {
 
 // Prints what stands before move i: the headings, with exercise C's each order's closing word, before exercise D's
 // those of the runs that were handed the journal, the book, and the day on which each order is executed, and after the
-// last move the book again, with the signers.
+// last move the book again, with the signers, and where every opening ended.
 fn say_before(
     i: u8,
     runs: &[u64; RUNS_SIZE],
@@ -99,6 +100,7 @@ fn say_before(
         io::write_all(STDOUT_FILENO, b"exercise D: a booked order is signed\n");
     } else if i == MOVES {
         say_book(&bank_numbers(rows));
+        say_counts(rows);
     }
 }
 
@@ -325,6 +327,7 @@ fn over_lines() {
         &files,
     );
     say_book(&numbers);
+    say_counts(&rows);
 }
 
 fn main() {

@@ -1,8 +1,11 @@
 // Exercise C: a run's closing word beside what the bank has, whether the word is true of it, the bank's book, and the
-// day on which each booked order is executed.
+// day on which each booked order is executed; and where every opening of a session ended.
 use bank_rows::layout::STATE_SIZE;
 use bank_rows::numbers::file_length;
 use bank_rows::places::place_at;
+use bank_session::layout::SESSION_SIZE;
+use bank_session::report::CountAnswer;
+use bank_session::report::count_openings;
 use bank_state::limits::PLACE_COUNT;
 use bank_state::limits::STORE_BYTES;
 use bank_state::search::is_booked;
@@ -29,6 +32,7 @@ use journal::event::RECORD_COUNT;
 use libc::STDOUT_FILENO;
 use message::order_numbers::order_number_of;
 use octets::bytes::front;
+use opening_counts::seven::Counts;
 use print::book::BOOK_ROOM;
 use print::book::book;
 use print::day::DAY_ROOM;
@@ -293,5 +297,45 @@ pub(crate) fn say_days(row: &[u64; ROW_SIZE]) {
         let e = record_at(row, i);
         say_event(e);
         i += 1;
+    }
+}
+
+// The sum of two numbers, the largest one where 64 bits do not hold it.
+fn plus(a: u64, b: u64) -> u64 {
+    if u64::MAX - a < b {
+        return u64::MAX;
+    }
+    a + b
+}
+
+// The seven counts, and their sum.
+fn say_seven(c: Counts) {
+    let ended = plus(plus(c.fetched, c.skipped), plus(c.ended, c.cancelled));
+    let sum = plus(plus(c.pending, c.booked), plus(ended, c.dropped));
+    say(
+        b'#',
+        [
+            c.pending,
+            c.booked,
+            c.fetched,
+            c.skipped,
+            c.ended,
+            c.cancelled,
+            c.dropped,
+            0,
+            0,
+            0,
+        ],
+    );
+    say(b'=', [sum; VALUES]);
+    say_end();
+}
+
+// Where every opening of a session ended, as the session's call says.
+pub(crate) fn say_counts(rows: &[u64; SESSION_SIZE]) {
+    let answer = count_openings(rows);
+    match answer {
+        CountAnswer::Counted(c) => say_seven(c),
+        CountAnswer::WrongLength => {}
     }
 }

@@ -7,7 +7,7 @@ use Rattle.image.specs.declared.table.Row.{Row}
 use Rattle.image.specs.Table.{formNumber, imageFields}
 
 -- "the number of the card that made the form"
-pub number-is : formNumber ≡ 11
+pub number-is : formNumber ≡ 12
 number-is = refl
 
 -- a field begins with its tag: the first byte of a head of three bytes, or of four where the form's number stands in it
@@ -21,10 +21,10 @@ contentsFrom at (r ∷ rs) = (at + 3) ∷ contentsFrom (at + r .width + r .bytes
 
 -- "tags rising, each once"
 pub tags-rise : map tagOf imageFields
-    ≡ 0x01 ∷ 0x02 ∷ 0x03 ∷ 0x04 ∷ 0x05 ∷ 0x06 ∷ 0x07 ∷ 0x08 ∷ 0x09 ∷ 0x0A ∷ 0x0B ∷ 0x0C ∷ 0x0D ∷ 0x0E ∷ []
+    ≡ 0x01 ∷ 0x02 ∷ 0x03 ∷ 0x04 ∷ 0x05 ∷ 0x06 ∷ 0x07 ∷ 0x08 ∷ 0x09 ∷ 0x0A ∷ 0x0B ∷ 0x0C ∷ 0x0D ∷ 0x0E ∷ 0x0F ∷ []
 tags-rise = refl
 
 -- "Contents begin at"
 pub contents-begin : contentsFrom 0 imageFields
-    ≡ 3 ∷ 7 ∷ 18 ∷ 29 ∷ 64 ∷ 75 ∷ 79 ∷ 1618 ∷ 1622 ∷ 1857 ∷ 2172 ∷ 2191 ∷ 4882 ∷ 68373 ∷ []
+    ≡ 3 ∷ 7 ∷ 18 ∷ 29 ∷ 64 ∷ 75 ∷ 79 ∷ 1618 ∷ 1622 ∷ 1857 ∷ 2172 ∷ 2191 ∷ 4882 ∷ 68373 ∷ 131864 ∷ []
 contents-begin = refl

@@ -181,7 +181,7 @@ module _ (s xs a b ys c d : List ℕ) (e : taken s xs a b ≡ took Done ys (stor
         (read-packed imageItems s bytes (omega (arith, long)) (both .1)
         ∙ take-all (bytesIn imageItems) s (omega (arith, long)))
 
--- "131,861"; the session has 861 numbers in all, in one order
-pub image-is : (imageSizes .image ≡ 131861) × (imageSizes .numbers ≡ 861)
+-- "131,920"; the session has 868 numbers in all, in one order
+pub image-is : (imageSizes .image ≡ 131920) × (imageSizes .numbers ≡ 868)
 unfolding imageSizes imageItems fieldItems contentItems recordItems partItems storeItems bytesIn partsIn rowAt
 image-is = (refl, refl)

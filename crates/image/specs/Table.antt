@@ -8,7 +8,7 @@ use Rattle.image.specs.declared.table.Row.{Row}
 
 -- "the form's number: the number of the card that made the form"
 abbrev pub formNumber : ℕ
-formNumber = 11
+formNumber = 12
 
 -- the length of a time
 abbrev pub timeBytes : ℕ
@@ -82,6 +82,8 @@ imageFields =
     ∷ numberField 0x0C recordCount (8 ∷ timeBytes ∷ 2 ∷ 3 ∷ 4 ∷ 8 ∷ 8 ∷ 1 ∷ [])
     ∷ storeField 0x0D storeBytes  -- "the place store"
     ∷ storeField 0x0E storeBytes  -- "the mailbox store"
+    -- "counts: open, booked, fetched, skipped by receipt, ended by another receipt, cancelled, dropped"
+    ∷ numberField 0x0F 7 (8 ∷ [])
     ∷ []
 
 unfoldable pub rowAt : ℕ → Row

@@ -18,12 +18,12 @@ pub struct Row {
 }
 
 // How many fields an image has.
-const FIELD_COUNT: usize = 14;
+const FIELD_COUNT: usize = 15;
 
 // The form's number.
 const FORM: Row = Row {
     width: 4,
-    head: 0x01_0001_0b,
+    head: 0x01_0001_0c,
     records: 0,
     more: 0,
     widths: 0,
@@ -163,6 +163,17 @@ const MAILBOXES: Row = Row {
     bytes: STORE_BYTES,
 };
 
+// The seven counts.
+const COUNTS: Row = Row {
+    width: 3,
+    head: 0x0f_0038,
+    records: 7,
+    more: 0,
+    widths: 0x8,
+    store: 0,
+    bytes: 56,
+};
+
 // The fields in the order of `imageFields`.
 const ROWS: [Row; FIELD_COUNT] = [
     FORM,
@@ -179,6 +190,7 @@ const ROWS: [Row; FIELD_COUNT] = [
     JOURNAL,
     ORDERS,
     MAILBOXES,
+    COUNTS,
 ];
 
 // The field at a row; none behind the last.
@@ -214,10 +226,10 @@ pub fn image_sizes() -> Sizes
     ensures { λ r. ⌜ r ≡ imageSizes ⌝ }
 {
     Sizes {
-        fields: 14,
-        numbers: 861,
+        fields: 15,
+        numbers: 868,
         store: STORE_BYTES,
-        image: 131861,
+        image: 131920,
         orders: 4882,
         mailboxes: 68373,
     }

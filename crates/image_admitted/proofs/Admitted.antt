@@ -14,8 +14,9 @@ use Rattle.bank_state.specs.State.{BankState, noDownload, placeAt, downloadAt}
 use Rattle.bank_state.specs.Store.{partAt}
 use Rattle.bank_rows.specs.State.{downloadCountOf, nonceCountOf, Laid}
 use Rattle.bank_steps.specs.Lent.{stateOf}
-use Rattle.bank_session.specs.Session.{LentSession, sessionSize, bankRows, bankIn, journalIn}
+use Rattle.bank_session.specs.Session.{LentSession, sessionSize, bankRows, bankIn, journalIn, countsIn}
 use Rattle.bank_admitted.specs.Session.{SessionHolds}
+use Rattle.bank_admitted.specs.Counts.{CountsHold}
 use Rattle.bank_admitted.proofs.Rows.{packed-rises}
 use Rattle.image_records.specs.Layout as image
 use Rattle.image_numbers.proofs.Laws.{length-numbersIn}
@@ -36,6 +37,7 @@ use Rattle.image_admitted.proofs.Slots.{
   every-subscriber,
 }
 use Rattle.image_admitted.proofs.Journal.{every-event, journal-unused}
+use Rattle.image_admitted.proofs.Counts.{counts-open, counts-booked, counts-sum, counts-few}
 use Rattle.image_admitted.proofs.Rows.{
   counts-fit,
   shown,
@@ -59,7 +61,8 @@ lengths-right m l =
     )
 
 module _ (m : LentSession) (right : lengthsRight m ≡ true) (o : SessionHolds (stateOf (bankIn m)) (journalIn m))
-    (l : Laid (bankRows (m .rows))) (z : Wiped (bankRows (m .rows))) where
+    (n : CountsHold (stateOf (bankIn m) .bank) (countsIn (m .rows))) (l : Laid (bankRows (m .rows)))
+    (z : Wiped (bankRows (m .rows))) where
   abbrev w : BankState
   w = stateOf (bankIn m)
 
@@ -102,6 +105,9 @@ module _ (m : LentSession) (right : lengthsRight m ≡ true) (o : SessionHolds (
     events = events-fit v (o .events);
     journal = every-event v (o .journal);
     journalOver = journal-unused v (o .journal);
+    countOpen = counts-open (m .rows) (m .row) (long .row) v n;
+    countBooked = counts-booked (m .rows) (m .row) (long .row) v n;
+    countSum = counts-sum (m .rows) (m .row) (long .row) v n;
   }
 
   pub holds-admitted : isAdmitted m ≡ true
@@ -111,4 +117,5 @@ module _ (m : LentSession) (right : lengthsRight m ≡ true) (o : SessionHolds (
       (listing (numbersOf m) (m .orders) (m .mailboxes) (length-numbersIn (m .rows) (m .row) (long .row)) (long .orders)
       (long .mailboxes) list)
       (numbers-fit w v o (nonce-all (m .rows) (m .row) (long .rows) (long .row) l z)
-      (download-all (m .rows) (m .row) (long .rows) (long .row) l z))
+      (download-all (m .rows) (m .row) (long .rows) (long .row) l z)
+      (counts-few (m .rows) (m .row) (long .row) v n))

@@ -142,6 +142,10 @@ journal-stands : stands image.journalAt eventWidths recordCount ≡ true
 unfolding stands every partWidths widths imageItems fieldItems contentItems recordItems partItems storeItems rowAt
 journal-stands = refl
 
+seven-stand : stands image.countsAt (8 ∷ []) image.countSize ≡ true
+unfolding stands every partWidths widths imageItems fieldItems contentItems recordItems partItems storeItems rowAt
+seven-stand = refl
+
 -- record i of a group has no part too long
 abbrev pub Group : List ℕ → ℕ → List ℕ → ℕ → Type 0
 Group xs at ws i = Below (λ (k : ℕ). getD xs (at + (i * length ws + k)) 0 < 256 ^ getD ws k 0) (length ws)
@@ -341,14 +345,16 @@ module _ (xs : List ℕ) where
       → ((i : ℕ) → i < placeCount → Group xs image.downloadsAt downloadWidths i)
       → ((i : ℕ) → i < placeCount → Group xs image.placesAt placeWidths i)
       → ((i : ℕ) → i < placeCount → image.fileAt xs i < 256 ^ 2)
-      → ((i : ℕ) → i < recordCount → Group xs image.journalAt eventWidths i) → fits imageItems xs ≡ true
-  unfolding partWidths image.counterAt image.fileAt
-  groups-fit head series counts nonces count downloads places files journal =
+      → ((i : ℕ) → i < recordCount → Group xs image.journalAt eventWidths i)
+      → ((i : ℕ) → i < image.countSize → image.countAt xs i < 256 ^ 8) → fits imageItems xs ≡ true
+  unfolding partWidths image.counterAt image.fileAt image.countAt
+  groups-fit head series counts nonces count downloads places files journal seven =
       let Fit : ℕ → Type 0 = λ p. getD xs p 0 < 256 ^ getD partWidths p 0 in
       let one : (i : ℕ) → i < 1 → i ≡ 0 = λ i h. omega arith in
       fits-from imageItems xs
       (rw all-parts
-      (join Fit image.journalAt image.numberCount
+      (join Fit image.countsAt image.numberCount
+      (join Fit image.journalAt image.countsAt
       (join Fit image.filesAt image.journalAt
       (join Fit image.placesAt image.filesAt
       (join Fit image.downloadsAt image.placesAt
@@ -366,4 +372,6 @@ module _ (xs : List ℕ) where
       (group-fits image.placesAt placeWidths placeCount places-stand (omega arith) (omega arith) xs places))
       (group-fits image.filesAt (2 ∷ []) placeCount files-stand (omega arith) (omega arith) xs
       (λ i k. (tt, part-of (image.filesAt + i) _ _ (omega arith) refl (files i k)))))
-      (group-fits image.journalAt eventWidths recordCount journal-stands (omega arith) (omega arith) xs journal)))
+      (group-fits image.journalAt eventWidths recordCount journal-stands (omega arith) (omega arith) xs journal))
+      (group-fits image.countsAt (8 ∷ []) image.countSize seven-stand (omega arith) (omega arith) xs
+      (λ i k. (tt, part-of (image.countsAt + i) _ _ (omega arith) refl (seven i k))))))

@@ -19,9 +19,10 @@ use Rattle.bank_state.specs.State.{Bank, BankState, placeAt, downloadAt}
 use Rattle.bank_state.specs.Store.{partAt}
 use Rattle.bank_rows.specs.State.{downloadCountOf, nonceCountOf, bankOf, nonceAt, Laid}
 use Rattle.bank_steps.specs.Lent.{stateOf}
-use Rattle.bank_session.specs.Session.{LentSession, sessionSize, bankRows, bankIn, journalIn}
+use Rattle.bank_session.specs.Session.{LentSession, sessionSize, bankRows, bankIn, journalIn, countsIn}
 use Rattle.bank_admitted.specs.State.{mailboxFile, PlaceHolds, DownloadHolds, StateHolds, NoneIdle}
 use Rattle.bank_admitted.specs.Session.{Words, recordAt, SessionHolds}
+use Rattle.bank_admitted.specs.Counts.{CountsHold}
 use Rattle.image.specs.Items.{imageItems}
 use Rattle.image.specs.Image.{fits}
 use Rattle.image_records.specs.Layout as image
@@ -36,6 +37,7 @@ use Rattle.image_admitted.proofs.Places.{place-known, place-holds, plac
 use Rattle.image_admitted.proofs.Downloads.{downloads-hold, download-not-idle, downloads-rise}
 use Rattle.image_admitted.proofs.Slots.{places-apart, downloads-apart, open-all, open-of, events-bound}
 use Rattle.image_admitted.proofs.Journal.{journal-holds}
+use Rattle.image_admitted.proofs.Counts.{counts-hold}
 use Rattle.image_admitted.proofs.Rows.{tested-laid, shown, tested-wiped}
 use Rattle.image_admitted.proofs.Fits.{nonce-words, download-words, place-words, place-signers, event-word}
 use Rattle.image_conditions.proofs.Listed.{Listed, listed}
@@ -198,3 +200,6 @@ module _ (m : LentSession) (right : lengthsRight m ≡ true) (h : isAdmitted m �
     journal = journal-holds v event-fits (list .journal) (list .journalOver);
     events = events-bound v (list .events);
   }
+
+  pub admitted-counts : CountsHold b (countsIn (m .rows))
+  admitted-counts = counts-hold (m .rows) (m .row) (long .row) v (list .countOpen) (list .countBooked) (list .countSum)

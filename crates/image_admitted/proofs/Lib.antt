@@ -8,6 +8,7 @@ pub mod Mailboxes
 pub mod Places
 pub mod Downloads
 pub mod Slots
+pub mod Counts
 pub mod Journal
 pub mod Rows
 pub mod Fits

@@ -279,7 +279,7 @@ module _ {xs : List ℕ} {b : Bank} {j : Journal} {d n : ℕ} (v : Shown xs b j 
   unfolding isOpenSlot
   open-uploads = count-places any (λ s. refl)
 
-  open-count : count (isOpenSlot xs) slotCount ≡ openCount b
+  pub open-count : count (isOpenSlot xs) slotCount ≡ openCount b
   unfolding isOpenSlot openCount
   open-count = count-slots any (λ s. refl)
 

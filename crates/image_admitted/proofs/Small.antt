@@ -125,7 +125,8 @@ module _ (w : BankState) {xs : List ℕ} {j : Journal} {d n : ℕ} (v : Shown xs
       subst SmallEvent (sym (o .journal .unused i (ltb-false i (usedAfter (j .events)) e))) (omega arith)
 
   module _ (nonces : (i : ℕ) → i < nonceCount → image.nonceAt xs i ≡ nonceParts (nonceAt (w .bank) i))
-      (downloads : (i : ℕ) → i < placeCount → image.downloadAt xs i ≡ downloadParts (downloadAt (w .bank) i)) where
+      (downloads : (i : ℕ) → i < placeCount → image.downloadAt xs i ≡ downloadParts (downloadAt (w .bank) i))
+      (counts : (i : ℕ) → i < image.countSize → image.countAt xs i ≤ w .bank .openings) where
     head-group : Group xs image.clockAt headWidths 0
     head-group = ((tt, omega (arith, v .clock, o .clock)), omega (arith, v .openings, o .state .numbers))
 
@@ -166,3 +167,4 @@ module _ (w : BankState) {xs : List ℕ} {j : Journal} {d n : ℕ} (v : Shown xs
         let e = recordAt j i in
         let f = small-event i (ltb i (usedAfter (j .events))) refl in
         event-group xs i (eventIn e) (v .event i k) (f .0) (f .1) (f .2) (f .3) (f .4) (f .5) (f .6) (kind-small (e .kind)))
+        (λ i k. omega (arith, counts i k, o .state .numbers))

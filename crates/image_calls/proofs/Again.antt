@@ -1,5 +1,5 @@
 -- An image that a session was put away in gives back that session, into whatever memory it is taken up: so it gives the
--- bank and the journal that the session was. Assumes nothing.
+-- bank, the journal and the counts that the session was. Assumes nothing.
 use Prim.Native.Nat.{ℕ}
 use mathlib.Core.Bool.{Bool, true, false, cond, _&&_}
 use mathlib.Core.List.{List}
@@ -11,7 +11,8 @@ use Rattle.octets.specs.Bytes.{overwrite}
 use Rattle.journal.specs.Row.{Journal}
 use Rattle.bank_state.specs.State.{BankState}
 use Rattle.bank_steps.specs.Lent.{stateOf}
-use Rattle.bank_session.specs.Session.{LentSession, bankIn, journalIn}
+use Rattle.opening_counts.specs.declared.seven.Counts.{Counts}
+use Rattle.bank_session.specs.Session.{LentSession, bankIn, journalIn, countsIn}
 use Rattle.image_calls.specs.declared.calls.TakenUp.the-variants as up
 use Rattle.image_calls.specs.declared.calls.Away.the-variants as away
 use Rattle.image_calls.specs.Calls.{
@@ -60,14 +61,15 @@ taken-long n image = at (lengthsRight n) refl
     at true e z = e
     at false e z = absurd (omega arith)
 
--- whoever takes the image up has this bank and this journal
-abbrev pub Resumes : BankState → Journal → List ℕ → Type 0
-Resumes w j image = (n : LentSession) → takeUp n image .number ≡ 0 →
+-- whoever takes the image up has this bank, this journal and these counts
+abbrev pub Resumes : BankState → Journal → Counts → List ℕ → Type 0
+Resumes w j c image = (n : LentSession) → takeUp n image .number ≡ 0 →
     (stateOf (bankIn (takeUp n image .session)) ≡ w) × (journalIn (takeUp n image .session) ≡ j)
+    × (countsIn (takeUp n image .session .rows) ≡ c)
 
 pub put-resumes : (m : LentSession) (buffer : List ℕ) → putAway m buffer .number ≡ 0 →
-    Resumes (stateOf (bankIn m)) (journalIn m) (take imageLength (putAway m buffer .buffer))
+    Resumes (stateOf (bankIn m)) (journalIn m) (countsIn (m .rows)) (take imageLength (putAway m buffer .buffer))
 put-resumes m buffer z n y =
     let image = take imageLength (putAway m buffer .buffer) in
     let e = ap (λ (k : TakeUp). k .session) (put-taken m buffer z n (taken-long n image y)) in
-    (ap (λ (x : LentSession). stateOf (bankIn x)) e, ap journalIn e)
+    (ap (λ (x : LentSession). stateOf (bankIn x)) e, ap journalIn e, ap (λ (x : LentSession). countsIn (x .rows)) e)

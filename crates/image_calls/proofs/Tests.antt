@@ -155,5 +155,5 @@ unfolding list.conditions
 listed-kinds xs orders mailboxes h i k =
     let journal = all-of (list.clockFits xs ∷ list.openingsFit xs ∷ list.seriesConditions xs ∷ list.nonceConditions xs
     ∷ list.downloadConditions xs ∷ list.everyPlace xs orders ∷ list.openConditions xs
-    ∷ list.everyMailbox xs mailboxes ∷ list.journalConditions xs ∷ []) (listed xs orders mailboxes h .3) 8 in
+    ∷ list.everyMailbox xs mailboxes ∷ list.journalConditions xs ∷ list.countConditions xs ∷ []) (listed xs orders mailboxes h .3) 8 in
     kind-by xs journal i k (ltb i (usedEvents xs)) refl

@@ -1,4 +1,4 @@
--- Cards 2 and 11: what is put away is taken up again, equal sessions give equal bytes and only such bytes are accepted,
+-- Cards 2, 11 and 12: what is put away is taken up again, equal sessions give equal bytes and only such bytes are accepted,
 -- older images get number 9, and what is refused changes nothing. Assumes nothing.
 use Prim.Native.Nat.{ℕ, _≤_, _<_}
 use mathlib.Core.Bool.{Bool, true, false, cond, _&&_}
@@ -47,9 +47,9 @@ use Rattle.image_calls.proofs.Tests.{lengths-right, right-lengths, list
 use Rattle.image_calls.proofs.Putting.{away-done}
 use Rattle.image_calls.proofs.Taking.{both-stores, image-tests, up-not, up-done}
 
--- "131,861"
-pub image-of-131861-bytes : imageLength ≡ 131861
-image-of-131861-bytes = image.image-is .0
+-- "131,920"
+pub image-of-131920-bytes : imageLength ≡ 131920
+image-of-131920-bytes = image.image-is .0
 
 over-front : (d xs : List ℕ) (n : ℕ) → length xs ≡ n → overwrite d 0 xs ≡ xs ++ drop n d
 unfolding overwrite
@@ -99,7 +99,7 @@ module _ (m : LentSession) (right : lengthsRight m ≡ true) (holds : isAdmitted
         numbers-again,
         stores-again .0,
         stores-again .1,
-        numbers.rows-back (m .rows) (m .row) (sizes .0),
+        numbers.rows-back (m .rows) (m .row) (sizes .0) (sizes .1),
         numbers.row-back (m .rows) (m .row) (sizes .1),
       )
 
@@ -238,7 +238,7 @@ module _ (m : LentSession) (s : List ℕ) where
   other-form bytes right other =
       sym (up-not m s right (not-image (codec.isImage s) refl (λ e. other (form-number s bytes e))))
 
-  -- those of cards 2, 3, 5, 6 and 8
+  -- those of cards 2, 3, 5, 6, 8 and 11
   pub older-refused : Bytes s → lengthsRight m ≡ true → getD s 3 0 < formNumber → takeUp m s ≡ takeUpOf up.NotAdmitted m
   older-refused bytes right older = other-form bytes right (λ e. omega (arith, older, e))
 

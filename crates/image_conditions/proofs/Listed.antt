@@ -35,6 +35,10 @@ use Rattle.image_conditions.specs.Conditions.{
   downloadConditions,
   openConditions,
   journalConditions,
+  countsOpen,
+  countsBooked,
+  countsSum,
+  countConditions,
   conditions,
   admitted,
 }
@@ -60,6 +64,9 @@ pub record Listed (xs orders mailboxes : List ℕ) : Type 0 where
   pub events : eventsFit xs ≡ true
   pub journal : everyEvent xs ≡ true
   pub journalOver : journalUnused xs ≡ true
+  pub countOpen : countsOpen xs ≡ true
+  pub countBooked : countsBooked xs ≡ true
+  pub countSum : countsSum xs ≡ true
 
 module _ (xs orders mailboxes : List ℕ) where
   pub lengths : admitted xs orders mailboxes ≡ true
@@ -72,7 +79,8 @@ module _ (xs orders mailboxes : List ℕ) where
       (eqb-true _ _ (a .0), eqb-true _ _ (b .0), eqb-true _ _ (c .0))
 
   pub listed : admitted xs orders mailboxes ≡ true → Listed xs orders mailboxes
-  unfolding admitted conditions seriesConditions nonceConditions downloadConditions openConditions journalConditions
+  unfolding
+      admitted conditions seriesConditions nonceConditions downloadConditions openConditions journalConditions countConditions
   listed h =
       let a = and-true (eqb (length xs) numberCount) _ h in
       let b = and-true (eqb (length orders) storeBytes) _ (a .1) in
@@ -86,7 +94,8 @@ module _ (xs orders mailboxes : List ℕ) where
       let places = and-true (everyPlace xs orders) _ (downloads .1) in
       let opens = and-true (openConditions xs) _ (places .1) in
       let files = and-true (everyMailbox xs mailboxes) _ (opens .1) in
-      let journal = and-true (journalConditions xs) true (files .1) in
+      let journal = and-true (journalConditions xs) _ (files .1) in
+      let counts = and-true (countConditions xs) true (journal .1) in
       let counter = and-true (everySeries xs) _ (series .0) in
       let sum = and-true (seriesSum xs) true (counter .1) in
       let nonce = and-true (nonceCountFits xs) _ (nonces .0) in
@@ -103,6 +112,9 @@ module _ (xs orders mailboxes : List ℕ) where
       let events = and-true (eventsFit xs) _ (journal .0) in
       let event = and-true (everyEvent xs) _ (events .1) in
       let none = and-true (journalUnused xs) true (event .1) in
+      let first = and-true (countsOpen xs) _ (counts .0) in
+      let second = and-true (countsBooked xs) _ (first .1) in
+      let seven = and-true (countsSum xs) true (second .1) in
       record {
         clock = clock .0;
         openings = openings .0;
@@ -124,11 +136,15 @@ module _ (xs orders mailboxes : List ℕ) where
         events = events .0;
         journal = event .0;
         journalOver = none .0;
+        countOpen = first .0;
+        countBooked = second .0;
+        countSum = seven .0;
       }
 
   pub listing : length xs ≡ numberCount → length orders ≡ storeBytes → length mailboxes ≡ storeBytes
       → Listed xs orders mailboxes → admitted xs orders mailboxes ≡ true
-  unfolding admitted conditions seriesConditions nonceConditions downloadConditions openConditions journalConditions
+  unfolding
+      admitted conditions seriesConditions nonceConditions downloadConditions openConditions journalConditions countConditions
   listing n o f l =
       rw (
         eq-eqb (length xs) numberCount n,
@@ -154,4 +170,7 @@ module _ (xs orders mailboxes : List ℕ) where
         l .events,
         l .journal,
         l .journalOver,
+        l .countOpen,
+        l .countBooked,
+        l .countSum,
       )

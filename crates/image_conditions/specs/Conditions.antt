@@ -46,8 +46,10 @@ use Rattle.image_records.specs.Layout.{
   fileOf,
   slotCount,
   slotAt,
+  countSize,
+  countAt,
 }
-use Rattle.image_records.specs.Records.{nonceTime, downloadHolds, inUse, placeHolds, eventHolds}
+use Rattle.image_records.specs.Records.{nonceTime, downloadHolds, isBooked, inUse, placeHolds, eventHolds}
 
 -- ---- single numbers
 
@@ -178,6 +180,24 @@ mailboxBytes xs mailboxes i = allZero (bytesBehind fileBytes mailboxes i (fileAt
 unfoldable pub journalUnused : List ℕ → Bool
 journalUnused xs = unused xs journalAt eventWidth (usedEvents xs) recordCount
 
+-- ---- the counts
+
+-- counts open: "the first count is the number of open uploads and open downloads"
+unfoldable pub countsOpen : List ℕ → Bool
+countsOpen xs = eqb (countAt xs 0) (count (isOpenSlot xs) slotCount)
+
+-- place i is a booked order
+unfoldable pub isBookedPlace : List ℕ → ℕ → Bool
+isBookedPlace xs i = isBooked (placeAt xs i)
+
+-- counts booked: "the second count is the number of places of state 2"
+unfoldable pub countsBooked : List ℕ → Bool
+countsBooked xs = eqb (countAt xs 1) (count (isBookedPlace xs) placeCount)
+
+-- counts sum: "the seven counts add up to openings, exactly, without wrap"
+unfoldable pub countsSum : List ℕ → Bool
+countsSum xs = eqb (total (countAt xs) countSize) (openings xs)
+
 -- ---- the list
 
 -- record i of each kind
@@ -236,11 +256,15 @@ openConditions xs = allOf (ordersDistinct xs ∷ numbersDistinct xs ∷ openInAl
 unfoldable pub journalConditions : List ℕ → Bool
 journalConditions xs = allOf (eventsFit xs ∷ everyEvent xs ∷ journalUnused xs ∷ [])
 
+unfoldable pub countConditions : List ℕ → Bool
+countConditions xs = allOf (countsOpen xs ∷ countsBooked xs ∷ countsSum xs ∷ [])
+
 -- the conditions, over numbers and stores of their lengths
 unfoldable pub conditions : List ℕ → List ℕ → List ℕ → Bool
 conditions xs orders mailboxes =
     allOf (clockFits xs ∷ openingsFit xs ∷ seriesConditions xs ∷ nonceConditions xs ∷ downloadConditions xs
-    ∷ everyPlace xs orders ∷ openConditions xs ∷ everyMailbox xs mailboxes ∷ journalConditions xs ∷ [])
+    ∷ everyPlace xs orders ∷ openConditions xs ∷ everyMailbox xs mailboxes ∷ journalConditions xs
+    ∷ countConditions xs ∷ [])
 
 -- "What a session may hold is bounded": the session is one of the list
 unfoldable pub admitted : List ℕ → List ℕ → List ℕ → Bool

@@ -1,4 +1,7 @@
 // The list: whether numbers and stores are a session that an image may hold.
+use crate::tables::counts_booked;
+use crate::tables::counts_open;
+use crate::tables::counts_sum;
 use crate::tables::downloads_unused;
 use crate::tables::events_fit;
 use crate::tables::every_download;
@@ -30,7 +33,8 @@ ghost use Rattle.bank_state.specs.Limits.{storeBytes};
 ghost use Rattle.image_records.specs.Layout.{numberCount};
 ghost use Rattle.image_conditions.specs.Conditions.{clockFits, openingsFit, nonceCountFits, downloadCountFits};
 ghost use Rattle.image_conditions.specs.Conditions.{seriesConditions, nonceConditions, downloadConditions};
-ghost use Rattle.image_conditions.specs.Conditions.{openConditions, journalConditions, conditions, admitted};
+ghost use Rattle.image_conditions.specs.Conditions.{openConditions, journalConditions, countConditions, conditions};
+ghost use Rattle.image_conditions.specs.Conditions.{admitted};
 
 fn clock_fits(numbers: &[u64]) -> bool
     requires { ⌜ length (now numbers) ≡ numberCount ⌝ }
@@ -110,14 +114,25 @@ fn journal_conditions(numbers: &[u64]) -> bool
     )
 }
 
+fn count_conditions(numbers: &[u64]) -> bool
+    requires { ⌜ length (now numbers) ≡ numberCount ⌝ }
+    ensures { λ r. ⌜ r ≡ countConditions (now (numbers .entry)) ⌝ }
+{
+    both(
+        counts_open(numbers),
+        both(counts_booked(numbers), both(counts_sum(numbers), true)),
+    )
+}
+
 fn conditions(numbers: &[u64], orders: &[u8], mailboxes: &[u8]) -> bool
     requires { ⌜ (length (now numbers) ≡ numberCount) × (length (now orders) ≡ storeBytes)
         × (length (now mailboxes) ≡ storeBytes) ⌝ }
     ensures { λ r. ⌜ r ≡ conditions (now (numbers .entry)) (now (orders .entry)) (now (mailboxes .entry)) ⌝ }
 {
+    let counts = both(count_conditions(numbers), true);
     let journal = both(
         every_mailbox(numbers, mailboxes),
-        both(journal_conditions(numbers), true),
+        both(journal_conditions(numbers), counts),
     );
     let places = both(
         every_place(numbers, orders),

@@ -3,6 +3,7 @@ use bank_state::limits::NONCE_COUNT;
 use bank_state::limits::PLACE_COUNT;
 use bank_state::limits::SERIES_LIMIT;
 use image_records::layout::CLOCK;
+use image_records::layout::COUNT_SIZE;
 use image_records::layout::DOWNLOAD_WIDTH;
 use image_records::layout::DOWNLOADS;
 use image_records::layout::EVENT_WIDTH;
@@ -12,6 +13,7 @@ use image_records::layout::NONCE_WIDTH;
 use image_records::layout::NONCES;
 use image_records::layout::OPENINGS;
 use image_records::layout::SLOT_COUNT;
+use image_records::layout::count_at;
 use image_records::layout::counter_at;
 use image_records::layout::counter_of;
 use image_records::layout::download_at;
@@ -56,6 +58,7 @@ ghost use Rattle.image_conditions.specs.Conditions.{signersAt, signersIn
 ghost use Rattle.image_conditions.specs.Conditions.{mailboxBytes, mailboxTest, everyMailbox};
 ghost use Rattle.image_conditions.specs.Conditions.{eventTest, everyEvent};
 ghost use Rattle.image_conditions.specs.Conditions.{journalUnused, nonceTest};
+ghost use Rattle.image_conditions.specs.Conditions.{countsOpen, isBookedPlace, countsBooked, countsSum};
 
 // Whether the numbers of records from one on, up to the end of their field, are 0.
 fn unused(numbers: &[u64], at: usize, width: usize, used: usize, all: usize) -> bool
@@ -553,4 +556,61 @@ pub fn journal_unused(numbers: &[u64]) -> bool
         used_events(numbers),
         RECORD_COUNT,
     )
+}
+
+// ---- the counts
+
+pub fn counts_open(numbers: &[u64]) -> bool
+    requires { ⌜ length (now numbers) ≡ numberCount ⌝ }
+    ensures { λ r. ⌜ r ≡ countsOpen (now (numbers .entry)) ⌝ }
+{
+    count_at(numbers, 0) == open_slots(numbers, SLOT_COUNT)
+}
+
+fn is_booked_place(numbers: &[u64], i: usize) -> bool
+    requires { ⌜ (i < placeCount) × (length (now numbers) ≡ numberCount) ⌝ }
+    ensures { λ r. ⌜ r ≡ isBookedPlace (now (numbers .entry)) i ⌝ }
+{
+    let p = place_at(numbers, i);
+    p.state == 2
+}
+
+// How many places are booked orders.
+fn booked_places(numbers: &[u64]) -> u64
+    requires { ⌜ length (now numbers) ≡ numberCount ⌝ }
+    ensures { λ r. ⌜ r ≡ count (isBookedPlace (now (numbers .entry))) placeCount ⌝ }
+{
+    let mut k: u64 = 0;
+    let mut i = 0;
+    while i < PLACE_COUNT {
+        k += one_if(is_booked_place(numbers, i));
+        i += 1;
+    }
+    k
+}
+
+pub fn counts_booked(numbers: &[u64]) -> bool
+    requires { ⌜ length (now numbers) ≡ numberCount ⌝ }
+    ensures { λ r. ⌜ r ≡ countsBooked (now (numbers .entry)) ⌝ }
+{
+    count_at(numbers, 1) == booked_places(numbers)
+}
+
+// Whether the counts add up to the openings: each is taken from what the ones before leave of these, so that no sum is
+// too large.
+pub fn counts_sum(numbers: &[u64]) -> bool
+    requires { ⌜ length (now numbers) ≡ numberCount ⌝ }
+    ensures { λ r. ⌜ r ≡ countsSum (now (numbers .entry)) ⌝ }
+{
+    let mut left = numbers[OPENINGS];
+    let mut i = 0;
+    while i < COUNT_SIZE {
+        let n = count_at(numbers, i);
+        if left < n {
+            return false;
+        }
+        left -= n;
+        i += 1;
+    }
+    left == 0
 }

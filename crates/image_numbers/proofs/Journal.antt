@@ -1,6 +1,6 @@
--- The journal's records read and written one by one. Assumes nothing.
+-- The journal's records read and written one by one, and all numbers one after another. Assumes nothing.
 use Prim.Native.Nat.{ℕ, _+_, _*_, _<_}
-use mathlib.Core.List.{List, [], _∷_, _++_}
+use mathlib.Core.List.{List, [], _∷_, _++_, append-assoc}
 use mathlib.Core.Path.{_≡_, sym, ap, _∙_}
 use native.Mathlib.Numerals.{add-one}
 use native.Mathlib.Omega.{arith}
@@ -16,10 +16,13 @@ use Rattle.journal.specs.Events.{recordCount, noEvent}
 use Rattle.bank_rows.specs.Rows.{rowsOf, numbersOf}
 use Rattle.bank_rows.proofs.General.{numbers-append, numbers-one, length-numbers, rows-next}
 use Rattle.image_records.specs.declared.layout.EventRecord.{EventRecord}
-use Rattle.image_records.specs.Layout.{journalAt, eventWidth, numberCount, eventAt}
-use Rattle.image_numbers.specs.Table.{sessionPlaces}
-use Rattle.image_numbers.specs.Numbers.{numbersAt, kindOf, eventNumbers, eventOf, numbersIn}
-use Rattle.image_numbers.proofs.Places.{length-at, length-session}
+use Rattle.opening_counts.specs.Counts.{countRow, countsFrom}
+use Rattle.bank_session.specs.Session as session
+use Rattle.bank_session.specs.Session.{sessionSize, countsIn}
+use Rattle.image_records.specs.Layout.{journalAt, eventWidth, countsAt, numberCount, eventAt}
+use Rattle.image_numbers.specs.Table.{sessionPlaces, imagePlaces}
+use Rattle.image_numbers.specs.Numbers.{numbersAt, kindOf, eventNumbers, eventOf, numbersIn, rowsFrom}
+use Rattle.image_numbers.proofs.Places.{length-at, length-session, length-image}
 use Rattle.image_numbers.proofs.Laws.{event-wide}
 
 pub kind-else : (n : ℕ) → (n ≡ 0 → ⊥) → (n ≡ 1 → ⊥) → (n ≡ 2 → ⊥) → (n ≡ 3 → ⊥) → (n ≡ 4 → ⊥) → Signed ≡ kindOf n
@@ -102,15 +105,32 @@ put-next xs row i ys zs long rows h f g =
     ∙ ap (overwrite xs journalAt) (sym more)
 
 -- all numbers, one after another
-pub gathered : (s : List ℕ) (row : List Event) (xs ys zs : List ℕ) → length row ≡ recordCount → length xs ≡ numberCount
+pub gathered : (s : List ℕ) (row : List Event) (xs ys zs us : List ℕ) → length row ≡ recordCount → length xs ≡ numberCount
     → ys ≡ overwrite xs 0 (numbersAt sessionPlaces s) → zs ≡ overwrite ys journalAt (numbersOf eventNumbers row)
-    → zs ≡ numbersIn s row
+    → us ≡ overwrite zs countsAt (countRow (countsIn s)) → us ≡ numbersIn s row
 unfolding numbersIn
-gathered s row xs ys zs rows long f g =
+gathered s row xs ys zs us rows long f g h =
     let a : List ℕ = numbersAt sessionPlaces s in
     let b : List ℕ = numbersOf eventNumbers row in
     let n : length a ≡ journalAt = length-at sessionPlaces s ∙ length-session in
     let m : length b ≡ eventWidth * length row = length-numbers eventNumbers eventWidth event-wide row in
+    let c : List ℕ = countRow (countsIn s) in
     let o : length (a ++ b) ≡ length a + length b = length-append a b in
-    g ∙ ap (λ (t : List ℕ). overwrite t journalAt b) f
-    ∙ overwrite-overwrite xs 0 journalAt a b n (omega arith) ∙ overwrite-all xs (a ++ b) (omega arith)
+    let p : length ((a ++ b) ++ c) ≡ length (a ++ b) + 7 = length-append (a ++ b) c in
+    let two : zs ≡ overwrite xs 0 (a ++ b) =
+    g ∙ ap (λ (t : List ℕ). overwrite t journalAt b) f ∙ overwrite-overwrite xs 0 journalAt a b n (omega arith) in
+    h ∙ ap (λ (t : List ℕ). overwrite t countsAt c) two
+    ∙ overwrite-overwrite xs 0 countsAt (a ++ b) c (omega arith) (omega arith) ∙ overwrite-all xs ((a ++ b) ++ c) (omega arith)
+    ∙ append-assoc a b c
+
+-- and all numbers of a session
+pub scattered : (s xs ys zs : List ℕ) → length s ≡ sessionSize → ys ≡ overwrite s 0 (numbersAt imagePlaces xs)
+    → zs ≡ overwrite ys session.countsAt (countRow (countsFrom countsAt xs)) → zs ≡ rowsFrom xs
+unfolding rowsFrom
+scattered s xs ys zs long f g =
+    let a : List ℕ = numbersAt imagePlaces xs in
+    let c : List ℕ = countRow (countsFrom countsAt xs) in
+    let n : length a ≡ session.countsAt = length-at imagePlaces xs ∙ length-image in
+    let o : length (a ++ c) ≡ length a + 7 = length-append a c in
+    g ∙ ap (λ (t : List ℕ). overwrite t session.countsAt c) f
+    ∙ overwrite-overwrite s 0 session.countsAt a c n (omega arith) ∙ overwrite-all s (a ++ c) (omega arith)

@@ -1,5 +1,6 @@
 -- The laws of a session's numbers.
 pub mod Places
+pub mod Counts
 pub mod Laws
 pub mod Records
 pub mod Loops

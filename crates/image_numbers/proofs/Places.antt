@@ -10,7 +10,7 @@ use borrow.Author.Tests.{eqb-true, ltb-true}
 use Rattle.octets.proofs.Tests.{and-true}
 use Rattle.bank_rows.specs.Rows.{allBelow}
 use Rattle.bank_rows.proofs.Tests.{all-holds}
-use Rattle.bank_session.specs.Session.{sessionSize}
+use Rattle.bank_session.specs.Session.{countsAt, sessionSize}
 use Rattle.image_records.specs.Layout.{journalAt, numberCount}
 use Rattle.image_numbers.specs.Table.{
   groupAt,
@@ -58,13 +58,17 @@ pub length-session : length sessionPlaces ≡ journalAt
 unfolding sessionPlaces groupsFrom groupPlaces recordsFrom recordPlaces partPlaces groupAt
 length-session = refl
 
-pub length-image : length imagePlaces ≡ sessionSize
+pub length-image : length imagePlaces ≡ countsAt
 unfolding imagePlaces groupsFrom groupPlaces recordsFrom recordPlaces partPlaces groupAt
 length-image = refl
 
 pub session-within : areWithin sessionSize sessionPlaces ≡ true
 unfolding sessionPlaces groupsFrom groupPlaces recordsFrom recordPlaces partPlaces groupAt areWithin
 session-within = refl
+
+pub session-inside : areWithin countsAt sessionPlaces ≡ true
+unfolding sessionPlaces groupsFrom groupPlaces recordsFrom recordPlaces partPlaces groupAt areWithin
+session-inside = refl
 
 pub image-within : areWithin journalAt imagePlaces ≡ true
 unfolding imagePlaces groupsFrom groupPlaces recordsFrom recordPlaces partPlaces groupAt areWithin
@@ -94,11 +98,11 @@ again i = getD (numbersAt imagePlaces sessionPlaces) i 0
 back : ℕ → Bool
 back i = eqb (again i) i
 
-all-back : allBelow back sessionSize ≡ true
+all-back : allBelow back countsAt ≡ true
 unfolding
     back again allBelow numbersAt sessionPlaces imagePlaces groupsFrom groupPlaces recordsFrom recordPlaces partPlaces groupAt
 all-back = refl
 
-pub session-back : (i : ℕ) → i < sessionSize → again i ≡ i
+pub session-back : (i : ℕ) → i < countsAt → again i ≡ i
 unfolding back
-session-back i h = eqb-true _ _ (all-holds back sessionSize all-back i h)
+session-back i h = eqb-true _ _ (all-holds back countsAt all-back i h)

@@ -16,14 +16,16 @@ use Rattle.journal.specs.Events.{recordCount, noEvent}
 use Rattle.bank_state.specs.Limits.{placeCount, nonceCount}
 use Rattle.bank_rows.specs.Layout as rows
 use Rattle.bank_rows.specs.Rows.{numbersOf, allBelow}
+use Rattle.bank_rows.proofs.General.{length-numbers}
 use Rattle.bank_rows.proofs.Tests.{all-holds}
-use Rattle.bank_session.specs.Session.{eventsAt}
+use Rattle.opening_counts.specs.Counts.{countRow}
+use Rattle.bank_session.specs.Session.{eventsAt, countsIn}
 use Rattle.image_records.specs.declared.layout.NonceRecord.{NonceRecord}
 use Rattle.image_records.specs.declared.layout.DownloadRecord.{DownloadRecord}
 use Rattle.image_records.specs.declared.layout.PlaceRecord.{PlaceRecord}
 use Rattle.image_records.specs.declared.layout.EventRecord.{EventRecord}
 use Rattle.image_records.specs.Layout as image
-use Rattle.image_records.specs.Layout.{nonceAt, downloadAt, placeAt, eventAt, counterAt, fileAt}
+use Rattle.image_records.specs.Layout.{nonceAt, downloadAt, placeAt, eventAt, counterAt, fileAt, countAt}
 use Rattle.image_numbers.specs.Table.{
   nonceParts,
   downloadParts,
@@ -38,7 +40,7 @@ use Rattle.image_numbers.specs.Table.{
 }
 use Rattle.image_numbers.specs.Numbers.{numbersAt, numberOfKind, eventNumbers, numbersIn}
 use Rattle.image_numbers.proofs.Places.{length-at, length-session}
-use Rattle.image_numbers.proofs.Laws.{session-number}
+use Rattle.image_numbers.proofs.Laws.{event-wide, session-number, count-behind}
 
 -- ---- the numbers that stand alone
 
@@ -243,10 +245,14 @@ module _ (s : List ℕ) (row : List Event) (long : length row ≡ recordCount) (
   unfolding numbersIn
   event-number j p k e =
       let n : length (numbersAt sessionPlaces s) ≡ image.journalAt = length-at sessionPlaces s ∙ length-session in
-      let f : p ≡ length (numbersAt sessionPlaces s) + (i * image.eventWidth + j) = omega arith in
-      ap (λ (q : ℕ). getD (numbersAt sessionPlaces s ++ numbersOf eventNumbers row) q 0) f
-      ∙ getD-append-add (numbersAt sessionPlaces s) (numbersOf eventNumbers row) (i * image.eventWidth + j) 0
-      ∙ number-of row i j (omega arith) k
+      let a : List ℕ = numbersAt sessionPlaces s in
+      let b : List ℕ = numbersOf eventNumbers row in
+      let c : List ℕ = countRow (countsIn s) in
+      let q : ℕ = i * image.eventWidth + j in
+      let f : p ≡ length a + q = omega arith in
+      let m = length-numbers eventNumbers image.eventWidth event-wide row in
+      ap (λ (k : ℕ). getD (a ++ (b ++ c)) k 0) f ∙ getD-append-add a (b ++ c) q 0
+      ∙ List·getD-append b c 0 q (omega arith) ∙ number-of row i j (omega arith) k
 
   pub event-in : eventAt (numbersIn s row) i ≡ eventIn (getD row i noEvent)
   unfolding eventAt
@@ -262,3 +268,11 @@ module _ (s : List ℕ) (row : List Event) (long : length row ≡ recordCount) (
         event-number 6 (at + 6) (omega arith) (omega arith),
         event-number 7 (at + 7) (omega arith) (omega arith),
       )
+
+-- ---- the counts
+
+-- count i is the session's
+pub count-in : (s : List ℕ) (row : List Event) → length row ≡ recordCount → (i : ℕ)
+    → countAt (numbersIn s row) i ≡ getD (countRow (countsIn s)) i 0
+unfolding countAt
+count-in s row long i = count-behind s row long i

@@ -9,6 +9,8 @@ use Rattle.journal.specs.declared.event.Kind.the-variants.{Unused, Opened, Book
 use Rattle.journal.specs.declared.event.Event.{Event}
 use Rattle.journal.specs.Events.{recordCount}
 use Rattle.bank_rows.specs.Rows.{rowsOf, numbersOf}
+use Rattle.opening_counts.specs.Counts.{countRow, countsFrom}
+use Rattle.bank_session.specs.Session.{countsIn}
 use Rattle.image_records.specs.Layout as image
 use Rattle.image_numbers.specs.Table.{sessionPlaces, imagePlaces}
 
@@ -50,13 +52,13 @@ eventOf s =
       kind = kindOf (getD s 7 0);
     }
 
--- ---- a session's numbers, and the session of an image's
+-- ---- a session's numbers, and the session of an image's: the counts stand last in both
 
 unfoldable pub numbersIn : List ℕ → List Event → List ℕ
-numbersIn s row = numbersAt sessionPlaces s ++ numbersOf eventNumbers row
+numbersIn s row = numbersAt sessionPlaces s ++ (numbersOf eventNumbers row ++ countRow (countsIn s))
 
 unfoldable pub rowsFrom : List ℕ → List ℕ
-rowsFrom xs = numbersAt imagePlaces xs
+rowsFrom xs = numbersAt imagePlaces xs ++ countRow (countsFrom image.countsAt xs)
 
 unfoldable pub rowFrom : List ℕ → List Event
 rowFrom xs = rowsOf image.eventWidth eventOf recordCount (drop image.journalAt xs)

@@ -38,7 +38,7 @@ placeParts =
     rows.placeUse ∷ rows.placeSubscriber ∷ rows.placeHigh ∷ rows.placeLow ∷ rows.placeNumber ∷ rows.placeSegments
     ∷ rows.placeTaken ∷ rows.placeAttempts ∷ rows.placeLast ∷ rows.placeLength ∷ rows.placeSigners ∷ []
 
--- the image's numbers in their order, by their places among the session's
+-- the image's numbers in their order up to the journal's, by their places among the session's
 abbrev pub sessionGroups : List Group
 sessionGroups =
     single rows.clockAt  -- "clock" (02)
@@ -64,7 +64,8 @@ downloadNumbers = 1 ∷ 2 ∷ 0 ∷ 3 ∷ 4 ∷ 5 ∷ []
 abbrev pub placeNumbers : List ℕ
 placeNumbers = 0 ∷ 2 ∷ 3 ∷ 1 ∷ 4 ∷ 5 ∷ 6 ∷ 7 ∷ 8 ∷ 9 ∷ 10 ∷ []
 
--- the session's numbers in their order, by their places among the image's
+-- the session's numbers in their order, by their places among the image's; the counts, which stand behind the journal
+-- there, are told apart
 abbrev pub imageGroups : List Group
 imageGroups =
     single image.clockAt

@@ -72,8 +72,15 @@ journalAt = filesAt + placeCount
 abbrev pub eventWidth : ℕ
 eventWidth = 8
 
+-- "counts: open, booked, fetched, skipped by receipt, ended by another receipt, cancelled, dropped"
+abbrev pub countsAt : ℕ
+countsAt = journalAt + eventWidth * recordCount
+
+abbrev pub countSize : ℕ
+countSize = 7
+
 abbrev pub numberCount : ℕ
-numberCount = journalAt + eventWidth * recordCount
+numberCount = countsAt + countSize
 
 abbrev pub clock : List ℕ → ℕ
 clock xs = getD xs clockAt 0
@@ -158,6 +165,10 @@ fileAt xs i = getD xs (filesAt + i) 0
 -- the file length of a subscriber's mailbox; 0 where there is no such subscriber
 unfoldable pub fileOf : List ℕ → ℕ → ℕ
 fileOf xs s = cond (within 1 subscribers s) (fileAt xs (s - 1)) 0
+
+-- count i, from 0 on
+unfoldable pub countAt : List ℕ → ℕ → ℕ
+countAt xs i = getD xs (countsAt + i) 0
 
 -- a slot is a place (0 to 7) or an open download (8 to 15), with the same three states
 abbrev pub slotCount : ℕ

@@ -11,7 +11,7 @@ ghost use Rattle.bank_state.specs.Limits.{placeCount, nonceCount};
 ghost use Rattle.journal.specs.Events.{recordCount};
 ghost use Rattle.image_records.specs.Layout.{numberCount, nonces, downloads, usedEvents, nonceAt, downloadAt};
 ghost use Rattle.image_records.specs.Layout.{placeAt, eventAt, counterAt, counterOf, fileAt, fileOf, slotCount};
-ghost use Rattle.image_records.specs.Layout.{slotAt};
+ghost use Rattle.image_records.specs.Layout.{slotAt, countSize, countAt};
 
 pub const SLOT_COUNT: usize = PLACE_COUNT + PLACE_COUNT;
 
@@ -45,7 +45,11 @@ pub const JOURNAL: usize = FILES + PLACE_COUNT;
 
 pub const EVENT_WIDTH: usize = 8;
 
-pub const NUMBER_COUNT: usize = JOURNAL + EVENT_WIDTH * RECORD_COUNT;
+pub const COUNTS: usize = JOURNAL + EVENT_WIDTH * RECORD_COUNT;
+
+pub const COUNT_SIZE: usize = 7;
+
+pub const NUMBER_COUNT: usize = COUNTS + COUNT_SIZE;
 
 // A nonce's halves and the timestamp of its opening.
 pub struct NonceRecord {
@@ -227,6 +231,14 @@ pub fn file_of(numbers: &[u64], subscriber: u64) -> u64
         return 0;
     }
     file_at(numbers, (subscriber - 1) as usize)
+}
+
+// Count i, from 0 on.
+pub fn count_at(numbers: &[u64], i: usize) -> u64
+    requires { ⌜ (i < countSize) × (length (now numbers) ≡ numberCount) ⌝ }
+    ensures { λ r. ⌜ r ≡ countAt (now (numbers .entry)) i ⌝ }
+{
+    numbers[COUNTS + i]
 }
 
 // Place i, or open download i - 8.

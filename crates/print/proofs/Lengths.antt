@@ -1,4 +1,4 @@
--- How long a day, an order's name, a closing word, and an order's line are at most. Assumes nothing.
+-- How long a day, an order's name, a closing word, an order's line, and the seven counts are at most. Assumes nothing.
 use Prim.Native.Nat.{ℕ, _≤_}
 use mathlib.Core.Bool.{Bool, true, false}
 use mathlib.Core.List.{[], _∷_, _++_}
@@ -13,14 +13,16 @@ use Rattle.bank_state.specs.Search.{isBooked}
 use Rattle.message.specs.Limits.{ful}
 use Rattle.message.specs.OrderNumbers.{orderNumberOf}
 use Rattle.signers.specs.Signers.{signerCount, isReleased}
-use Rattle.print.specs.Text.{hyphen, orderCharacters, orderNumberText, typeColumn, space, newline, column}
-use Rattle.print.proofs.Digits.{length-digitsIn, type-column-most, column-most}
+use Rattle.opening_counts.specs.declared.seven.Counts.{Counts}
+use Rattle.print.specs.Text.{hyphen, orderCharacters, orderNumberText, typeColumn, space, newline, decimal, column}
+use Rattle.print.proofs.Digits.{length-digitsIn, decimal-most, type-column-most, column-most}
 use Rattle.print.proofs.Texts.{cond-most}
 use Rattle.print.specs.Day.{lastDigits, dayText, dayRoom}
 use Rattle.print.specs.Name.{orderNameText, orderNameRoom}
 use Rattle.print.specs.Closing.{closingText, closingRoom}
 use Rattle.print.specs.Book.{releasedText, releasedRoom, signerColumns, signerColumnsRoom}
 use Rattle.print.specs.Book.{orderColumns, orderColumnsRoom, orderLine}
+use Rattle.print.specs.Seven.{countsText, countsRoom}
 
 pub day-most : (d : Date) → length (dayText d) ≤ dayRoom
 unfolding dayText
@@ -97,3 +99,28 @@ unfolding orderLine
 order-most p =
     cond-most (isBooked (p .used)) (orderColumns p (p .length) newline) [] orderColumnsRoom (columns-most p (p .length) newline)
     (omega arith)
+
+pub counts-most : (c : Counts) → length (countsText c) ≤ countsRoom
+unfolding countsText
+counts-most c =
+    let five = column (c .cancelled) space ++ decimal (c .dropped) in
+    let four = column (c .ended) space ++ five in
+    let three = column (c .skipped) space ++ four in
+    let two = column (c .fetched) space ++ three in
+    let one = column (c .booked) space ++ two in
+    omega (
+      arith,
+      length-append (column (c .pending) space) one,
+      length-append (column (c .booked) space) two,
+      length-append (column (c .fetched) space) three,
+      length-append (column (c .skipped) space) four,
+      length-append (column (c .ended) space) five,
+      length-append (column (c .cancelled) space) (decimal (c .dropped)),
+      column-most (c .pending) space,
+      column-most (c .booked) space,
+      column-most (c .fetched) space,
+      column-most (c .skipped) space,
+      column-most (c .ended) space,
+      column-most (c .cancelled) space,
+      decimal-most (c .dropped),
+    )

@@ -95,6 +95,7 @@ module _ (u : State) (r : List ℕ) (s : Course) (b : NoOther s) (ks : List Call
   call-beyond kind.ValueDay e h = rest s b
   call-beyond kind.MakeLine e h = rest s b
   call-beyond kind.PutIn e h = rest s b
+  call-beyond kind.Counts e h = rest s b
   call-beyond kind.NoCall e h = never h
 
 beyond : {rs : List (List ℕ)} → Records rs → (u : State) (s : Course) → NoOther s → NoOther (after (callsOf u rs) s)

@@ -100,6 +100,7 @@ first-appended kind.Image u r ks ls = refl
 first-appended kind.ValueDay u r ks ls = refl
 first-appended kind.MakeLine u r ks ls = refl
 first-appended kind.PutIn u r ks ls = refl
+first-appended kind.Counts u r ks ls = refl
 first-appended kind.NoCall u r ks ls = refl
 
 appended : (u : State) (rs ts : List (List ℕ)) → callsOf u (rs ++ ts) ≡ callsOf u rs ++ callsOf (unitAfter u rs) ts

@@ -11,7 +11,9 @@ use Rattle.bank.specs.declared.call.FrameAnswer.the-variants as frame
 use Rattle.bank.specs.declared.mailbox.FileAnswer.{FileAnswer}
 use Rattle.bank.specs.declared.mailbox.FileAnswer.the-variants as put
 use Rattle.bank.specs.Call.{frameInput}
-use Rattle.bank_session.specs.Session.{sessionFrameCall, sessionFileCall}
+use Rattle.bank_session.specs.declared.report.CountAnswer.{CountAnswer}
+use Rattle.bank_session.specs.declared.report.CountAnswer.the-variants as count
+use Rattle.bank_session.specs.Session.{sessionFrameCall, sessionFileCall, countCall}
 use Rattle.image_calls.specs.declared.calls.Away.{Away}
 use Rattle.image_calls.specs.declared.calls.Away.the-variants as away
 use Rattle.image_calls.specs.declared.calls.TakenUp.{TakenUp}
@@ -53,6 +55,7 @@ use Rattle.unit.specs.Call.{
   awayAnswer,
   takenUpAnswer,
   valueDayAnswer,
+  countAnswer,
   lineAnswer,
   outAnswer,
   indexOf,
@@ -67,6 +70,7 @@ use Rattle.unit.specs.Call.{
   makeStep,
   putStep,
   putInStep,
+  countStep,
   stepOf,
   unitCall,
 }
@@ -101,6 +105,10 @@ by-value-day : (x : ValueDay) → isClosed (valueDayAnswer x) ≡ false
 by-value-day (value.Day d) = refl
 by-value-day value.TooLate = refl
 
+by-count : (x : CountAnswer) → isClosed (countAnswer x) ≡ false
+by-count (count.Counted c) = refl
+by-count count.WrongLength = refl
+
 by-line : (x : MakeAnswer) → isClosed (lineAnswer x) ≡ false
 by-line make.Made = refl
 by-line make.WrongLength = refl
@@ -129,7 +137,7 @@ module _ {u : State} {s : Course} (v : Standing u s) (r : List ℕ) (w : Word) (
   Named x = (indexOf r < runCount) × Tells w o (clientAt (x .state) (indexOf r))
 
   named-by : (g : Kind) → callOf r ≡ g → isCall g ≡ true → stepOf g u r .answer ≡ Closed w o → Named (stepOf g u r)
-  unfolding frameStep fileStep awayStep takeUpStep imageStep valueDayStep makeStep putStep putInStep
+  unfolding frameStep fileStep awayStep takeUpStep imageStep valueDayStep makeStep putStep putInStep countStep
   named-by kind.Frame e h c =
       let input = frameInput (bankTimeOf r) (idsOf r) (bodyOf kind.Frame r) (u .memory .buffer) in
       never (sym (by-frame (sessionFrameCall (sessionIn u) input .answer)) ∙ ap isClosed c)
@@ -152,6 +160,7 @@ module _ {u : State} {s : Course} (v : Standing u s) (r : List ℕ) (w : Word) (
       let o = putAt (u .memory .lines) (lineIndex r) (bodyOf kind.PutIn r) (u .memory .buffer) in
       let t = isMade (rowAt (u .memory .lines .rows) (lineIndex r)) in
       never (sym (by-put t u (putStep u r) (by-out (o .answer))) ∙ ap isClosed c)
+  named-by kind.Counts e h c = never (sym (by-count (countCall (u .memory .bank .rows))) ∙ ap isClosed c)
   named-by kind.NoCall e h c = never h
 
   named : isCall (callOf r) ≡ true → unitCall u r .answer ≡ Closed w o → Named (unitCall u r)

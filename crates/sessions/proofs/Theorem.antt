@@ -12,7 +12,7 @@ use Rattle.unit_state.specs.declared.record.Kind.{Kind}
 use Rattle.unit_state.specs.declared.record.Kind.the-variants as kind
 use Rattle.unit_state.specs.Records.{runOf, runCount, callOf, isCall}
 use Rattle.unit.specs.State.{State}
-use Rattle.unit.specs.Call.{UnitCall, valueDayStep, stepOf, unitCall}
+use Rattle.unit.specs.Call.{UnitCall, valueDayStep, countStep, stepOf, unitCall}
 use Rattle.unit_state.proofs.Parts.{callable, run-within, run-named}
 use Rattle.sessions.specs.Sessions.{
   Records,
@@ -103,6 +103,10 @@ module _ {u : State} {s : Course} (v : Standing u s) (r : List ℕ) (b : Bytes r
   unfolding valueDayStep
   value-day-standing = v
 
+  count-standing : Standing (countStep u .state) s
+  unfolding countStep
+  count-standing = v
+
   next-call : (g : Kind) → callOf r ≡ g → isCall g ≡ true → Next
   next-call kind.Frame e h = as-made kind.Frame e _ (frame-step v r b) (λ ks. refl) (λ t ts. refl)
   next-call kind.File e h = as-made kind.File e _ (file-step v r b) (λ ks. refl) (λ t ts. refl)
@@ -118,6 +122,7 @@ module _ {u : State} {s : Course} (v : Standing u s) (r : List ℕ) (b : Bytes r
   next-call kind.ValueDay e h = as-left kind.ValueDay e value-day-standing (λ ks. refl) (λ t ts. refl)
   next-call kind.MakeLine e h = as-left kind.MakeLine e (make-standing v r e) (λ ks. refl) (λ t ts. refl)
   next-call kind.PutIn e h = as-left kind.PutIn e (put-in-standing v r e) (λ ks. refl) (λ t ts. refl)
+  next-call kind.Counts e h = as-left kind.Counts e count-standing (λ ks. refl) (λ t ts. refl)
   next-call kind.NoCall e h = never h
 
 is-course : {rs : List (List ℕ)} → Records rs → {u : State} {s : Course} → Standing u s → IsCourse u rs s

@@ -70,6 +70,7 @@ use Rattle.unit_state.specs.declared.answer.Answer.the-variants.{
   Line,
   Out,
   OutAndHeld,
+  Counted,
   Number,
   NoCall,
 }
@@ -195,7 +196,7 @@ unfoldable pub takenOf : State → List ℕ → Call
 takenOf u r = takesUp (sessionIn u) (frontOf u r)
 
 -- the call of a record of this kind, before the calls ks; `I` is "the host's own doing, no call of the unit", `V` asks the
--- calendar alone, and `L` and `W` a line: no calls of demand 3
+-- calendar alone, `L` and `W` a line, and `C` the session's counts, which it leaves: no calls of demand 3
 abbrev pub callFirst : Kind → State → List ℕ → List Call → List Call
 callFirst kind.Frame u r ks = frameOf u r ∷ ks
 callFirst kind.File u r ks = putOf u r ∷ ks
@@ -207,6 +208,7 @@ callFirst kind.Image u r ks = ks
 callFirst kind.ValueDay u r ks = ks
 callFirst kind.MakeLine u r ks = ks
 callFirst kind.PutIn u r ks = ks
+callFirst kind.Counts u r ks = ks
 callFirst kind.NoCall u r ks = ks
 
 -- the calls of these records
@@ -235,6 +237,7 @@ bytesIn (Day d) buffer room = []
 bytesIn Line buffer room = []
 bytesIn (Out n) buffer room = []
 bytesIn (OutAndHeld n k) buffer room = take k buffer
+bytesIn (Counted c) buffer room = []
 bytesIn (Number n) buffer room = []
 bytesIn NoCall buffer room = []
 
@@ -257,6 +260,7 @@ answerFirst kind.Image t ts = ts
 answerFirst kind.ValueDay t ts = ts
 answerFirst kind.MakeLine t ts = ts
 answerFirst kind.PutIn t ts = ts
+answerFirst kind.Counts t ts = ts
 answerFirst kind.NoCall t ts = t ∷ ts
 
 -- by the unit, call by call

@@ -25,6 +25,7 @@ use Rattle.unit_state.specs.declared.answer.Answer.the-variants.{
   Line,
   Out,
   OutAndHeld,
+  Counted,
   Number,
   NoCall,
 }
@@ -44,6 +45,7 @@ isClosed (Day d) = false
 isClosed Line = false
 isClosed (Out n) = false
 isClosed (OutAndHeld n k) = false
+isClosed (Counted c) = false
 isClosed (Number n) = false
 isClosed NoCall = false
 
@@ -62,6 +64,7 @@ wordIn x (Day d) = x
 wordIn x Line = x
 wordIn x (Out n) = x
 wordIn x (OutAndHeld n k) = x
+wordIn x (Counted c) = x
 wordIn x (Number n) = x
 wordIn x NoCall = x
 
@@ -79,6 +82,7 @@ nameIn x (Day d) = x
 nameIn x Line = x
 nameIn x (Out n) = x
 nameIn x (OutAndHeld n k) = x
+nameIn x (Counted c) = x
 nameIn x (Number n) = x
 nameIn x NoCall = x
 

@@ -22,7 +22,9 @@ use Rattle.bank.specs.declared.mailbox.FileAnswer.the-variants as file-answer
 use Rattle.bank.specs.Call.{frameInput, frameNumber}
 use Rattle.bank_steps.specs.Lent.{lent}
 use Rattle.bank.specs.Mailbox.{fileNumber}
-use Rattle.bank_session.specs.Session.{sessionFrameCall, sessionFileCall}
+use Rattle.bank_session.specs.declared.report.CountAnswer.{CountAnswer}
+use Rattle.bank_session.specs.declared.report.CountAnswer.the-variants as count-answer
+use Rattle.bank_session.specs.Session.{sessionFrameCall, sessionFileCall, countCall, countNumber}
 use Rattle.image_calls.specs.declared.calls.Away as put-away
 use Rattle.image_calls.specs.declared.calls.Away.the-variants as away
 use Rattle.image_calls.specs.declared.calls.TakenUp as taken-up
@@ -59,6 +61,7 @@ use Rattle.unit_state.specs.declared.answer.Answer.the-variants.{
   Line,
   Out,
   OutAndHeld,
+  Counted,
   Number,
   NoCall,
 }
@@ -152,6 +155,11 @@ takenUpAnswer up.NotAdmitted = Number (takenUpNumber up.NotAdmitted)
 abbrev pub valueDayAnswer : ValueDay → Answer
 valueDayAnswer (value.Day d) = Day d
 valueDayAnswer value.TooLate = Number (answered value.TooLate .number)
+
+-- the answer of the counts
+abbrev pub countAnswer : CountAnswer → Answer
+countAnswer (count-answer.Counted c) = Counted c
+countAnswer count-answer.WrongLength = Number (countNumber count-answer.WrongLength)
 
 -- the answers of making a line, and of putting a message in
 abbrev pub lineAnswer : MakeAnswer → Answer
@@ -337,6 +345,10 @@ unfoldable pub putInStep : State → List ℕ → UnitCall
 putInStep s r =
     cond (isMade (rowAt (s .memory .lines .rows) (lineIndex r))) (putStep s r) (unchanged s NoCall)
 
+-- `C`: "the seven counts"
+unfoldable pub countStep : State → UnitCall
+countStep s = unchanged s (countAnswer (countCall (s .memory .bank .rows)))
+
 abbrev pub stepOf : Kind → State → List ℕ → UnitCall
 stepOf kind.Frame s r = frameStep s r
 stepOf kind.File s r = fileStep s r
@@ -348,6 +360,7 @@ stepOf kind.Image s r = imageStep s r
 stepOf kind.ValueDay s r = valueDayStep s r
 stepOf kind.MakeLine s r = makeStep s r
 stepOf kind.PutIn s r = putInStep s r
+stepOf kind.Counts s r = countStep s
 stepOf kind.NoCall s r = unchanged s NoCall
 
 -- the rooms of this memory are of their lengths

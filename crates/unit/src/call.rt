@@ -8,6 +8,8 @@ use bank::call::FrameAnswer;
 use bank::mailbox::FileAnswer;
 use bank_session::calls::frame_core;
 use bank_session::calls::put_file;
+use bank_session::report::CountAnswer;
+use bank_session::report::count_openings;
 use bank_state::limits::ID_BYTES;
 use bank_state::store::append;
 use bank_state::store::file_of;
@@ -78,6 +80,7 @@ ghost use lib.ListN.{length};
 ghost use Rattle.message.specs.Limits.{fileBytes};
 ghost use Rattle.calendar.specs.ValueDay.{valueDay};
 ghost use Rattle.bank_steps.specs.Lent.{Lent, lent};
+ghost use Rattle.bank_session.specs.Session.{countCall};
 ghost use Rattle.client_run.specs.Run.{lentOf};
 ghost use Rattle.client.specs.Calls.{callOf, beginCall};
 ghost use Rattle.unit_state.specs.Records.{headOf, timeOf, nonceOf, bookingTimeOf, runOf, isRun, runCount};
@@ -91,7 +94,7 @@ ghost use Rattle.unit.specs.State.{Memory, memory, stateOf};
 ghost use Rattle.unit.specs.Call.{Ready, roomsRight, afterCall, frameAnswer, fileAnswer, runAnswer};
 ghost use Rattle.unit.specs.Call.{journalAnswer, frameStep, fileStep, indexOf, begins, termsOf, paramsOf};
 ghost use Rattle.unit.specs.Call.{eventCall, roomCall, keeps, withClient, nextRun, keptPayloads, runCallOf, runCall};
-ghost use Rattle.unit.specs.Call.{runStep, journalStep, valueDayAnswer, unitCall};
+ghost use Rattle.unit.specs.Call.{runStep, journalStep, valueDayAnswer, countAnswer, unitCall};
 
 // A run after a call, and the call's answer.
 struct RunOut {
@@ -160,6 +163,23 @@ fn value_day_call(record: &[u8]) -> Answer
     ensures { λ r. ⌜ r ≡ valueDayAnswer (valueDay (bookingTimeOf (now («record» .entry)))) ⌝ }
 {
     value_day_answer(value_day(number_at(record, BOOKING_AT, TIME_BYTES)))
+}
+
+// What the counts' answer says.
+fn count_answer(answer: CountAnswer) -> Answer
+    ensures { λ r. ⌜ r ≡ countAnswer answer ⌝ }
+{
+    match answer {
+        CountAnswer::Counted(c) => Answer::Counted(c),
+        CountAnswer::WrongLength => Answer::Number(WRONG_LENGTH),
+    }
+}
+
+// The seven counts of the session.
+fn count_call(rows: &[u64]) -> Answer
+    ensures { λ r. ⌜ r ≡ countAnswer (countCall (now (rows .entry))) ⌝ }
+{
+    count_answer(count_openings(rows))
 }
 
 // The nonce bytes of a record.
@@ -589,6 +609,7 @@ pub fn call(
         Kind::ValueDay => value_day_call(record),
         Kind::MakeLine => make_call(record, lines, stores),
         Kind::PutIn => put_in_call(record, lines, stores, buffer),
+        Kind::Counts => count_call(rows),
         Kind::NoCall => Answer::NoCall,
     }
 }

@@ -1,7 +1,7 @@
 -- From one `L` to the next a line of the unit is after the messages put into it, record by record. Assumes nothing.
 use Prim.Native.Nat.{ℕ}
 use mathlib.Core.Bool.{Bool, true, false, cond, not, _&&_}
-use mathlib.Core.List.{List, [], _∷_, _++_}
+use mathlib.Core.List.{List, [], _∷_}
 use mathlib.Core.Path.{_≡_, refl, sym, ap, _∙_}
 use lib.Dec.{eqb, leb}
 use lib.ListN.{length}
@@ -14,18 +14,7 @@ use Rattle.unit_state.specs.declared.record.Kind.{Kind}
 use Rattle.unit_state.specs.declared.record.Kind.the-variants as kind
 use Rattle.unit_state.specs.Records.{seedOf, callOf}
 use Rattle.unit.specs.Call.{lineIndex}
-use Rattle.unit_lines.specs.UnitLines.{
-  Used,
-  used,
-  messageOf,
-  usedBy,
-  usedAfter,
-  sentBy,
-  sentTo,
-  keptBy,
-  keptIn,
-  UnitCourse,
-}
+use Rattle.unit_lines.specs.UnitLines.{used, messageOf, usedBy, usedAfter, sentBy, sentTo, keptBy, keptIn, UnitCourse}
 
 -- a message is put in, or is not
 put-sent : (l : Line) (m : Message) (t s : Bool)
@@ -49,6 +38,7 @@ record-sent i l r kind.Image h = refl
 record-sent i l r kind.ValueDay h = refl
 record-sent i l r kind.MakeLine h = rw (not-true (eqb (lineIndex r) i && not (eqb (seedOf r) 0)) h)
 record-sent i l r kind.PutIn h = put-sent l (messageOf r) (eqb (lineIndex r) i) (leb (length (messageOf r)) messageBytes)
+record-sent i l r kind.Counts h = refl
 record-sent i l r kind.NoCall h = refl
 
 pub unit-course : UnitCourse

@@ -37,6 +37,7 @@ use Rattle.unit.specs.Call.{
   takeUpStep,
   imageStep,
   valueDayStep,
+  countStep,
   lineIndex,
   makeStep,
   putStep,
@@ -175,7 +176,7 @@ module _ (s : State) (r : List ℕ) (l : LentTo s r) where
     -- ---- any record
 
     step-lines : (g : Kind) → callOf r ≡ g → LinesAre (λ i. usedBy g i r (us i)) (stepOf g s r .state)
-    unfolding frameStep fileStep runStep runCall journalStep awayStep takeUpStep imageStep valueDayStep
+    unfolding frameStep fileStep runStep runCall journalStep awayStep takeUpStep imageStep valueDayStep countStep
     step-lines kind.Frame e = v
     step-lines kind.File e = v
     step-lines (kind.Run x) e = v
@@ -186,6 +187,7 @@ module _ (s : State) (r : List ℕ) (l : LentTo s r) where
     step-lines kind.ValueDay e = v
     step-lines kind.MakeLine e = make-lines (line-inside (lineOf r) (line-within (lineOf r) (callable r kind.MakeLine refl e .within)))
     step-lines kind.PutIn e = put-lines (line-inside (lineOf r) (line-within (lineOf r) (callable r kind.PutIn refl e .within)))
+    step-lines kind.Counts e = v
     step-lines kind.NoCall e = v
 
     pub call-lines : LinesAre (λ i. usedBy (callOf r) i r (us i)) (unitCall s r .state)

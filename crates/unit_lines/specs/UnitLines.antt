@@ -57,6 +57,7 @@ usedBy kind.Image i r u = u
 usedBy kind.ValueDay i r u = u
 usedBy kind.MakeLine i r u = madeBy i r u
 usedBy kind.PutIn i r u = putBy i r u
+usedBy kind.Counts i r u = u
 usedBy kind.NoCall i r u = u
 
 -- line i after these records
@@ -77,6 +78,7 @@ sentBy kind.ValueDay i r = []
 sentBy kind.MakeLine i r = []
 sentBy kind.PutIn i r =
     cond (eqb (lineIndex r) i && leb (length (messageOf r)) messageBytes) (messageOf r ∷ []) []
+sentBy kind.Counts i r = []
 sentBy kind.NoCall i r = []
 
 unfoldable pub sentTo : ℕ → List (List ℕ) → List Message
@@ -95,6 +97,7 @@ keptBy kind.Image i r = true
 keptBy kind.ValueDay i r = true
 keptBy kind.MakeLine i r = not (eqb (lineIndex r) i && not (eqb (seedOf r) 0))
 keptBy kind.PutIn i r = true
+keptBy kind.Counts i r = true
 keptBy kind.NoCall i r = true
 
 unfoldable pub keptIn : ℕ → List (List ℕ) → Bool

@@ -27,6 +27,7 @@ use Rattle.unit_state.specs.declared.record.Kind.the-variants.{
   ValueDay,
   MakeLine,
   PutIn,
+  Counts,
   NoCall,
 }
 use Rattle.unit_state.specs.Records.{
@@ -98,6 +99,7 @@ head-within Image = omega arith
 head-within ValueDay = omega arith
 head-within MakeLine = omega arith
 head-within PutIn = omega arith
+head-within Counts = omega arith
 head-within NoCall = omega arith
 
 -- a length stands in the last bytes of a head
@@ -115,6 +117,7 @@ length-head Image h = omega arith
 length-head ValueDay h = omega arith
 length-head MakeLine h = omega arith
 length-head PutIn h = omega arith
+length-head Counts h = never h
 length-head NoCall h = never h
 
 pub nothing-whole : (k : Kind) (r : List ℕ) → length r < 1 → isWhole k r ≡ false

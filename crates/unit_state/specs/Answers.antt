@@ -15,6 +15,7 @@ use Rattle.unit_state.specs.declared.answer.Answer.the-variants.{
   Line,
   Out,
   OutAndHeld,
+  Counted,
   Number,
   NoCall,
 }
@@ -34,5 +35,6 @@ isAnswer (Day d) = true
 isAnswer Line = true
 isAnswer (Out n) = true
 isAnswer (OutAndHeld n k) = true
+isAnswer (Counted c) = true
 isAnswer (Number n) = true
 isAnswer NoCall = false

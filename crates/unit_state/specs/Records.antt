@@ -24,10 +24,11 @@ use Rattle.unit_state.specs.declared.record.Kind.the-variants.{
   ValueDay,
   MakeLine,
   PutIn,
+  Counts,
   NoCall,
 }
 
--- the letters F, M, U, D, R, N, J, P, T, I, V, L and W
+-- the letters F, M, U, D, R, N, J, P, T, I, V, L, W and C
 unfoldable pub kindOf : ℕ → Kind
 kindOf letter =
     decide
@@ -44,6 +45,7 @@ kindOf letter =
     ∷ (eqb letter 86, ValueDay)
     ∷ (eqb letter 76, MakeLine)
     ∷ (eqb letter 87, PutIn)
+    ∷ (eqb letter 67, Counts)
     ∷ [])
     NoCall
 
@@ -172,6 +174,8 @@ headOf ValueDay = bookingAt + timeBytes
 headOf MakeLine = seedAt + seedBytes
 -- "line 1, length 2"
 headOf PutIn = lineNumberAt + lineBytes + sizeBytes
+-- the letter alone
+headOf Counts = letterBytes
 headOf NoCall = letterBytes
 
 -- whether a length stands at the end of the head
@@ -189,6 +193,7 @@ hasLength Image = true
 hasLength ValueDay = false
 hasLength MakeLine = false
 hasLength PutIn = true
+hasLength Counts = false
 hasLength NoCall = false
 
 -- n bytes of a record r from a place on, and their number
@@ -309,6 +314,7 @@ isWithin Image r = inRoom (offsetOf r) (sizeOf Image r)
 isWithin ValueDay r = true
 isWithin MakeLine r = isLine (lineOf r)
 isWithin PutIn r = isLine (lineOf r)
+isWithin Counts r = true
 isWithin NoCall r = false
 
 -- a record of this kind that is not cut short
@@ -335,4 +341,5 @@ isCall Image = true
 isCall ValueDay = true
 isCall MakeLine = true
 isCall PutIn = true
+isCall Counts = true
 isCall NoCall = false

@@ -2,14 +2,15 @@
 use calendar::dates::Date;
 use client_run::run::Word;
 use journal::event::OrderName;
+use opening_counts::seven::Counts;
 ghost use mathlib.Core.Path.{_≡_};
 ghost use Rattle.unit_state.specs.Answers.{isAnswer};
 
 // What a call answers: the length of the reply in the buffer, the file is in the mailbox, the length of the request,
 // the run stays, its closing word with what names its order, the journal left the run as it was, the length of the
 // image, the session is taken up, the bytes are in the image room, the value day, the line is made, what comes out of a
-// line (so many copies of the message put in, and behind them the held one of this length in the buffer), or the number
-// that the call was given. A record that is no call has none.
+// line (so many copies of the message put in, and behind them the held one of this length in the buffer), the seven
+// counts, or the number that the call was given. A record that is no call has none.
 pub enum Answer {
     Frame(usize),
     Put,
@@ -24,6 +25,7 @@ pub enum Answer {
     Line,
     Out(u64),
     OutAndHeld(u64, usize),
+    Counted(Counts),
     Number(u64),
     NoCall,
 }
@@ -46,6 +48,7 @@ pub fn is_answer(answer: Answer) -> bool
         Answer::Line => true,
         Answer::Out(_) => true,
         Answer::OutAndHeld(_, _) => true,
+        Answer::Counted(_) => true,
         Answer::Number(_) => true,
         Answer::NoCall => false,
     }

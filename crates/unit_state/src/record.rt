@@ -93,7 +93,8 @@ pub enum Event {
 }
 
 // What a record is: a call to the bank, a call to a client run, the journal handed to a run, the session put away or
-// taken up, bytes for the image room, the value day of a booking, a line made, a message put into a line, or no call.
+// taken up, bytes for the image room, the value day of a booking, a line made, a message put into a line, the counts
+// asked for, or no call.
 pub enum Kind {
     Frame,
     File,
@@ -105,6 +106,7 @@ pub enum Kind {
     ValueDay,
     MakeLine,
     PutIn,
+    Counts,
     NoCall,
 }
 
@@ -126,6 +128,7 @@ pub fn kind_of(letter: u8) -> Kind
         b'V' => Kind::ValueDay,
         b'L' => Kind::MakeLine,
         b'W' => Kind::PutIn,
+        b'C' => Kind::Counts,
         _ => Kind::NoCall,
     }
 }
@@ -157,6 +160,7 @@ pub fn head_of(kind: Kind) -> usize
         Kind::ValueDay => BOOKING_AT + TIME_BYTES,
         Kind::MakeLine => SEED_AT + SEED_BYTES,
         Kind::PutIn => LINE_NUMBER_AT + LINE_BYTES + SIZE_BYTES,
+        Kind::Counts => LETTER_BYTES,
         Kind::NoCall => LETTER_BYTES,
     }
 }
@@ -188,6 +192,7 @@ fn has_length(kind: Kind) -> bool
         Kind::ValueDay => false,
         Kind::MakeLine => false,
         Kind::PutIn => true,
+        Kind::Counts => false,
         Kind::NoCall => false,
     }
 }
@@ -322,6 +327,7 @@ fn is_within(kind: Kind, s: &[u8]) -> bool
         Kind::ValueDay => true,
         Kind::MakeLine => is_line(number_at(s, LINE_NUMBER_AT, LINE_BYTES)),
         Kind::PutIn => is_line(number_at(s, LINE_NUMBER_AT, LINE_BYTES)),
+        Kind::Counts => true,
         Kind::NoCall => false,
     }
 }
@@ -369,6 +375,7 @@ pub fn is_call(kind: Kind) -> bool
         Kind::ValueDay => true,
         Kind::MakeLine => true,
         Kind::PutIn => true,
+        Kind::Counts => true,
         Kind::NoCall => false,
     }
 }

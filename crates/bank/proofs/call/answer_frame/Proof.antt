@@ -1,12 +1,11 @@
--- Number 1 where the rows are no bank's; else the frame is read and its request answered.
+-- Number 1 where the rows are no bank's; else the bank's call.
 use mathlib.Core.Path.{sym, ap, _∙_}
 use borrow.Author.Tests.{not-true, not-false}
 use Rattle.bank.specs.declared.call.FrameOut.{FrameOut}
 use Rattle.bank.specs.Lent.{lentFrameCallOf}
 use Rattle.bank_steps.specs.Lent.{lent}
-use Rattle.bank.proofs.Entered.{none-entered}
+use Rattle.bank.proofs.Entered.{none-entered, none-judged}
 use Rattle.bank.proofs.Lent.{rows-refused}
-use Rattle.bank.proofs.RequestBounds.{read-bounded}
 use borrow.Author.Needs.{needs}
 use Rattle.bank.proofs.call.answer_frame.Statement.{statement}
 use Rattle.bank.proofs.call.answer_frame.Tie as tie
@@ -20,24 +19,14 @@ returns c =
       ap (λ (o : FrameOut). lentFrameCallOf o (lent (a .rows .now) (a .orders .now) (a .mailboxes .now)) (a .buffer .now))
           (away .0) ∙ sym (rows-refused _ _ (sym (at-is-sound .is-sound .ensures) ∙ wrong)),
       none-entered (away .0) (away .1) _,
+      none-judged (away .0) (away .2) _,
     )
 
-answer-request-requires : tie.Need-answer-request-requires
-answer-request-requires c κs =
-    let at-read = c .before .before .before .before .before .before in
-    let at-if1 = at-read .before in
+answer-sound-requires : tie.Need-answer-sound-requires
+answer-sound-requires c κs =
+    let at-if1 = c .before .before .before .before in
     let at-is-sound = at-if1 .before in
-    let known = at-is-sound .before .before .before .before .before in (
-      sym (at-is-sound .is-sound .ensures) ∙ not-false (at-is-sound .is-sound .result) (at-if1 .if1 .left),
-      read-bounded _ (λ i. known .shared-slice-known2 .given i .fits) (at-read .read-whole-request .ensures .0),
-    )
-
-returns-2 : tie.Need-returns-2
-returns-2 c =
-    let at-answer = c .before .before .before .before .before .before .before .before in
-    let at-data = at-answer .before .before .before .before .before in
-    let at-read = at-data .before .before in
-    at-answer .answer-request .ensures _ (at-read .read-whole-request .ensures .0) (at-data .data-at .ensures)
+    sym (at-is-sound .is-sound .ensures) ∙ not-false (at-is-sound .is-sound .result) (at-if1 .if1 .left)
 
 pub answer-frame-spec : {M : Type 1} → statement M
 answer-frame-spec =
@@ -47,11 +36,9 @@ answer-frame-spec =
     (λ c κs. search needs)
     (λ c. search needs)
     returns
-    (λ c κs. search needs)
-    (λ c κs. search needs)
-    answer-request-requires
+    answer-sound-requires
     (λ c. search needs)
     (λ c. search needs)
     (λ c. search needs)
     (λ c. search needs)
-    returns-2)
+    (λ c. search needs))

@@ -14,11 +14,11 @@ use Rattle.bank_sound.proofs.Test.{sound-laid, sound-range}
 use Rattle.journal.specs.declared.event.Entry.{Entry}
 use Rattle.bank_events.specs.Entries.{Holds}
 use Rattle.bank.specs.declared.call.FrameOut.{FrameOut}
-use Rattle.bank.specs.Call.{RightInput, lentRight, frameInput}
+use Rattle.bank.specs.Call.{RightInput, lentRight, verdictBy, frameInput}
 use Rattle.bank.specs.Journal.{ifAnswered}
 use Rattle.bank.specs.Lent.{lentFrameCallOf}
 use Rattle.bank_steps.specs.Lent.{lent, stateOf}
-use Rattle.bank.proofs.Entered.{none-entered, frame-entered}
+use Rattle.bank.proofs.Entered.{none-entered, none-judged, frame-entered, frame-judged}
 use Rattle.bank.proofs.Lent.{advanced-prepared, lent-refused, frame-carried}
 use Rattle.bank.proofs.Right.{right-told}
 use borrow.Author.Needs.{needs}
@@ -61,6 +61,7 @@ returns c frame e d =
       ap (λ (o : FrameOut). lentFrameCallOf o (lent (a .rows .now) (a .orders .now) (a .mailboxes .now)) (a .buffer .now))
           (away .0) ∙ sym (lent-refused _ _ (sym (at-lent-right .lent-right .ensures) ∙ wrong)),
       none-entered (away .0) (away .1) _,
+      none-judged (away .0) (away .2) _,
     )
 
 drops-requires : tie.Need-drops-requires
@@ -109,11 +110,13 @@ returns-2 c frame e d =
     let lengths = sym (at-lent .lent-right .ensures) ∙ not-false (at-lent .lent-right .result) (at-if1 .if1 .left) in
     let step = at-respond .respond in
     let stored = at-advance .advance .ensures (m .mailboxes) in
-    let entered = frame-entered m input (sound at-lent) _ _ stored (at-context (at-number .number .ensures .0)) e d
-    (at-drops .drops .ensures .1 .entries) in (
-      frame-carried m input (sound at-lent) lengths _ _ stored (at-context (at-number .number .ensures .0)) e d (step .ensures .0),
+    let given = at-context (at-number .number .ensures .0) in
+    let entered = frame-entered m input (sound at-lent) _ _ stored given e d (at-drops .drops .ensures .1 .entries) in (
+      frame-carried m input (sound at-lent) lengths _ _ stored given e d (step .ensures .0),
       subst (λ (es : List Entry). Holds (step .result .batch) (ifAnswered (step .result .out .answer) es)) entered
           (step .ensures .1),
+      step .ensures .2
+          ∙ ap (verdictBy (step .result .out .answer)) (frame-judged m input (sound at-lent) _ _ stored given e d),
     )
 
 pub answer-request-spec : {M : Type 1} → statement M

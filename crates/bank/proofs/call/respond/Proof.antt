@@ -15,7 +15,7 @@ use Rattle.journal.specs.Events.{entriesIn}
 use Rattle.bank_events.specs.Entries.{Holds}
 use Rattle.bank.specs.Call.{Sendable, fileSegment, answerOf, respond}
 use Rattle.bank_steps.specs.Lent.{lent}
-use Rattle.bank.proofs.Entered.{request-entered, answered-entered}
+use Rattle.bank.proofs.Entered.{request-entered, answered-entered, answered-judged}
 use Rattle.bank.proofs.Lent.{respond-kept}
 use Rattle.bank.proofs.WrittenReplies.{sendable}
 use borrow.Author.Needs.{needs}
@@ -71,12 +71,14 @@ returns c =
     let v = judge (a .context) b (a .q) (length (a .bytes .now)) in
     let replied = at-reply .reply .ensures in
     let entered = request-entered (a .context) b (a .q) (a .bytes .now) (step .judged)
-    (at-named-order .named-order .ensures) (at-verdict-order .verdict-order .ensures) in (
+    (at-named-order .named-order .ensures) (at-verdict-order .verdict-order .ensures) in
+    let written = replied .answered ∙ ap answerOf (accepted-written _ _ (a .buffer .now) (can at-step .0) .0) in (
       respond-kept (lent (a .rows .now) (a .orders .now) (a .mailboxes .now)) v (a .q) (a .bytes .now)
           (step .judged) (step .done) (kept-length (at-length at-step)) replied,
-      answered-entered (replied .answered ∙ ap answerOf (accepted-written _ _ (a .buffer .now) (can at-step .0) .0))
+      answered-entered written
           (subst (λ (es : List Entry). Holds (c .with-action .result) (entriesIn (a .dropped) ++ es)) entered
           (c .with-action .ensures)),
+      answered-judged written (step .judged),
     )
 
 pub respond-spec : {M : Type 1} → statement M

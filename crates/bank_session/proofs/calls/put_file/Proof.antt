@@ -1,4 +1,4 @@
--- Number 1 for another length; else the bank's call on its numbers, which come back before the number of events.
+-- Number 1 for another length; else the bank's call on its numbers, which come back before the others.
 use Prim.Native.Nat.{ℕ}
 use mathlib.Core.List.{List}
 use mathlib.Core.Path.{_≡_, sym, ap, _∙_}
@@ -9,7 +9,7 @@ use lib.ListN.{length}
 use lib.Seq.{length-take-le}
 use Rattle.bank_rows.specs.Layout.{stateSize}
 use Rattle.bank.specs.Lent.{lentFileCallOf}
-use Rattle.bank_session.specs.Session.{sessionSize, eventCount, withEvents, sessionFileCall}
+use Rattle.bank_session.specs.Session.{sessionSize, withKept, sessionFileCall}
 use Rattle.bank_session.proofs.Rows.{renewed}
 use Rattle.bank_session.proofs.Laws.{file-taken}
 use Rattle.bank_session.proofs.calls.put_file.Statement.{statement}
@@ -32,7 +32,7 @@ returns-2 c =
     let put = at-put-file .put-file in
     let long : length rows ≡ sessionSize = omega (arith, at-if1 .if1 .left) in
     ap (λ (l : List ℕ). lentFileCallOf (put .result) l (put .last .1 .1 .1 .0)) (renewed rows long (put .last .0))
-    ∙ (ap (withEvents (eventCount rows)) (put .ensures)
+    ∙ (ap (withKept rows) (put .ensures)
     ∙ sym (file-taken rows (a .mailbox) (a .file .now) (a .mailboxes .now) long))
 
 pub put-file-spec : {M : Type 1} → statement M

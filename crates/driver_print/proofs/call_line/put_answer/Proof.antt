@@ -77,13 +77,20 @@ returns-13 c =
 
 returns-14 : tie.Need-returns-14
 returns-14 c =
-    let at-number = c .before .before in
-    let at-text = at-number .before .before .before .before in
+    let at-counts = c .before .before in
+    let at-text = at-counts .before .before .before .before in
     let told = at-text .before .before .before .before .answer8 .given .1 in
-    rw told (put-then (at-text .put-text10 .ensures) (at-number .put-decimal2 .ensures))
+    rw told (put-then (at-text .put-text10 .ensures) (at-counts .put-counts .ensures))
 
 returns-15 : tie.Need-returns-15
-returns-15 c = rw (c .enum-told7 .given .1) (put-nothing _ _ (omega arith))
+returns-15 c =
+    let at-number = c .before .before in
+    let at-text = at-number .before .before .before .before in
+    let told = at-text .before .before .before .before .answer9 .given .1 in
+    rw told (put-then (at-text .put-text11 .ensures) (at-number .put-decimal2 .ensures))
+
+returns-16 : tie.Need-returns-16
+returns-16 c = rw (c .enum-told7 .given .1) (put-nothing _ _ (omega arith))
 
 pub put-answer-spec : {M : Type 1} → statement M
 put-answer-spec =
@@ -138,6 +145,10 @@ put-answer-spec =
     (λ c κs. search needs)
     (λ c. search needs)
     (λ c. search needs)
+    (λ c κs. search needs)
+    (λ c κs. search needs)
+    (λ c. search needs)
+    (λ c. search needs)
     returns
     (λ c. search needs)
     returns-2
@@ -165,4 +176,6 @@ put-answer-spec =
     returns-13
     (λ c. search needs)
     returns-14
-    returns-15)
+    (λ c. search needs)
+    returns-15
+    returns-16)

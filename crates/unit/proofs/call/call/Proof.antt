@@ -17,12 +17,13 @@ use Rattle.unit_state.specs.declared.record.Kind.the-variants.{
   ValueDay,
   MakeLine,
   PutIn,
+  Counts,
   NoCall,
 }
 use Rattle.unit_rows.specs.Rows.{unitFrom}
 use Rattle.unit_rows.specs.Lines.{linesOf}
 use Rattle.unit.specs.State.{State, memory, stateOf}
-use Rattle.unit.specs.Call.{UnitCall, valueDayStep, stepOf, unitCall}
+use Rattle.unit.specs.Call.{UnitCall, valueDayStep, countStep, stepOf, unitCall}
 use Rattle.unit.proofs.Begins.{RoomsLengths, rooms-lengths}
 use Rattle.unit.proofs.Steps.{handed-run, ready, called}
 use Rattle.unit.proofs.ImageRoom.{away-within, image-within}
@@ -158,7 +159,13 @@ returns-11 c =
     by-kind (at-told .before .before) PutIn _ (at-told .enum-told9 .given .1) (at-put .put-in-call .ensures _ _ _ _ _)
 
 returns-12 : tie.Need-returns-12
-returns-12 c = by-kind (c .before .before) NoCall _ (c .enum-told10 .given .1) refl
+unfolding countStep
+returns-12 c =
+    let at-told = c .before .before in
+    by-kind (at-told .before .before) Counts _ (at-told .enum-told10 .given .1) (rw (c .count-call .ensures))
+
+returns-13 : tie.Need-returns-13
+returns-13 c = by-kind (c .before .before) NoCall _ (c .enum-told11 .given .1) refl
 
 pub call-spec : {M : Type 1} → statement M
 call-spec =
@@ -187,6 +194,8 @@ call-spec =
     make-call-requires
     (λ c. search needs)
     put-in-call-requires
+    (λ c. search needs)
+    (λ c κs. tt)
     (λ c. search needs)
     (λ c. search needs)
     (λ c. search needs)
@@ -221,4 +230,6 @@ call-spec =
     (λ c. search needs)
     (λ c. search needs)
     returns-11
-    returns-12)
+    (λ c. search needs)
+    returns-12
+    returns-13)

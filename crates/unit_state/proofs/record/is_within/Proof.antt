@@ -60,6 +60,7 @@ is-within-spec =
     (λ c. search needs)
     (λ c. search needs)
     (λ c. search needs)
+    (λ c. search needs)
     returns-3
     returns-4
     returns-5
@@ -68,4 +69,5 @@ is-within-spec =
     (λ c. search needs)
     returns-9
     returns-10
+    (λ c. search needs)
     (λ c. search needs))

@@ -1,0 +1,2 @@
+-- The definition of how many a clock drops.
+pub mod Idle

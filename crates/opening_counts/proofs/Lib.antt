@@ -1,0 +1,3 @@
+-- The laws of the counts, which the crates above cite.
+pub mod Room
+pub mod Laws

@@ -1,0 +1,10 @@
+-- The open ones less, and one count more.
+use borrow.Author.Needs.{needs}
+use Rattle.opening_counts.proofs.moves.with_skipped.Statement.{statement}
+use Rattle.opening_counts.proofs.moves.with_skipped.Tie as tie
+
+returns : tie.Need-returns
+returns c = rw (c .before .less .ensures)
+
+pub with-skipped-spec : {M : Type 1} → statement M
+with-skipped-spec = tie.close (tie.spec (λ c κs. search needs) (λ c. search needs) returns)

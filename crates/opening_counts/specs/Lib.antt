@@ -1,0 +1,2 @@
+-- The definitions of the seven counts.
+pub mod Counts
