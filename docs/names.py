@@ -11,7 +11,7 @@ WORD = re.compile(r"[^\W\d](?:[\w′·]|[-](?=\w))*")
 QUALIFIED = re.compile(r"(%s)(::|\.)(%s)" % (WORD.pattern, WORD.pattern))
 # Words of commands, of the kit and of other papers; endings of files.
 KNOWN = set("bash rt check ci dev doc version run git clone target bin kit txt md py NAME README papers scope tools "
-            "rattle-kit-5b-plain put_ list1330 list1343 bank1317 client1306 session1358 damaged1339 EBICS_POSTPROCESS_DONE".split())
+            "rattle-kit-5b-plain put_ list1245 list1343 bank1238 client1215 session807 damaged807 EBICS_POSTPROCESS_DONE".split())
 ENDINGS = {"rt", "antt", "edit", "md", "txt", "py"}
 
 

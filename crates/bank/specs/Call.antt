@@ -124,21 +124,10 @@ pub record FrameInput : Type 0 where
 abbrev pub context_of : FrameInput → Context
 context_of a = record { prefix = number a.ids; others = a.others }
 
--- the other banks counting so many
-abbrev pub input_beside : ℕ → ℕ → List ℕ → List ℕ → List ℕ → FrameInput
-input_beside others time ids frame buffer =
-    record { time = time; ids = ids; frame = frame; buffer = buffer; others = others }
-
 -- the other banks being idle
 abbrev pub frame_input : ℕ → List ℕ → List ℕ → List ℕ → FrameInput
-frame_input time ids frame buffer = input_beside idle_others time ids frame buffer
-
--- fields and data that were read from a frame
-pub record ReadFrom (q : Fields) (d : List ℕ) : Type 0 where
-  pub frame : List ℕ
-  pub fields : q ≡ read_request frame
-  pub bytes : d ≡ data_of frame
-  pub bounded : Bounded q
+frame_input time ids frame buffer =
+    record { time = time; ids = ids; frame = frame; buffer = buffer; others = idle_others }
 
 -- number 1 but for this: "a lent length differs from the above or is too short for what is to be written"
 abbrev pub lent_long : BankState → FrameInput → Bool

@@ -10,7 +10,7 @@ ghost use Rattle.bank_rows.specs.State.{bank_of};
 ghost use Rattle.bank_verdicts.specs.declared.verdict.Verdict.TheVariants.{Unreadable};
 ghost use Rattle.bank_verdicts.specs.Judgement.{judge};
 ghost use Rattle.bank_verdicts.specs.Replies.{reply_to, segment_in};
-ghost use Rattle.bank.specs.Call.{Bounded, Sendable, file_segment, SentAs, verdict_by, call_verdict, input_beside, frame_input};
+ghost use Rattle.bank.specs.Call.{Bounded, Sendable, file_segment, SentAs, verdict_by, call_verdict, frame_input};
 ghost use Rattle.bank_steps.specs.Lent.{lent, state_of, Prepared};
 ghost use Rattle.journal.specs.Events.{entries_in};
 ghost use Rattle.bank_events.specs.Entries.{Holds};
@@ -165,14 +165,13 @@ fn lent_right(orders: usize, mailboxes: usize, ids: usize, buffer: usize, time: 
 }
 
 // A request, read, arrives at a bank time, with a bank's rows, the ID bytes, both stores and the reply buffer lent;
-// `bytes` are its data, and the other banks count `others`.
+// `bytes` are its data.
 pub fn answer_request(
     rows: &mut [u64],
     time: u64,
     ids: &[u8],
     q: Fields,
     bytes: &[u8],
-    others: u64,
     orders: &mut [u8],
     mailboxes: &mut [u8],
     buffer: &mut [u8],
@@ -182,13 +181,13 @@ pub fn answer_request(
         (lent_frame_call_of result.out (lent rows.new orders.new mailboxes.new)
         buffer.new
         ≡ lent_frame_call (lent rows.old orders.old mailboxes.old)
-        (input_beside others time ids.now frame buffer.old))
+        (frame_input time ids.now frame buffer.old))
         × Holds result.batch (if_answered result.out.answer
         (entered_by (state_of (lent rows.old orders.old mailboxes.old))
-        (input_beside others time ids.now frame buffer.old)))
+        (frame_input time ids.now frame buffer.old)))
         × (result.verdict ≡ verdict_by result.out.answer
         (call_verdict (state_of (lent rows.old orders.old mailboxes.old))
-        (input_beside others time ids.now frame buffer.old))) }
+        (frame_input time ids.now frame buffer.old))) }
 {
     if !lent_right(orders.len(), mailboxes.len(), ids.len(), buffer.len(), time) {
         return turned_away();
@@ -197,9 +196,37 @@ pub fn answer_request(
     advance(rows, time, orders);
     let context = Context {
         prefix: number(ids),
-        others,
+        others: IDLE_OTHERS,
     };
     respond(rows, dropped, context, q, bytes, orders, mailboxes, buffer)
+}
+
+// A frame arrives at a bank time, with the rows of a bank, the ID bytes, both stores and the reply buffer lent.
+pub fn answer_sound(
+    rows: &mut [u64],
+    time: u64,
+    ids: &[u8],
+    frame: &[u8],
+    orders: &mut [u8],
+    mailboxes: &mut [u8],
+    buffer: &mut [u8],
+) -> FrameStep
+    requires { is_sound rows.old ≡ true }
+    ensures { (lent_frame_call_of result.out (lent rows.new orders.new mailboxes.new)
+        buffer.new
+        ≡ lent_frame_call (lent rows.old orders.old mailboxes.old)
+        (frame_input time ids.now frame.now buffer.old))
+        × Holds result.batch (if_answered result.out.answer
+        (entered_by (state_of (lent rows.old orders.old mailboxes.old))
+        (frame_input time ids.now frame.now buffer.old)))
+        × (result.verdict ≡ verdict_by result.out.answer
+        (call_verdict (state_of (lent rows.old orders.old mailboxes.old))
+        (frame_input time ids.now frame.now buffer.old))) }
+{
+    let p = read_whole_request(frame);
+    let q = p.fields;
+    let bytes = data_at(frame, p.from, p.end);
+    answer_request(rows, time, ids, q, bytes, orders, mailboxes, buffer)
 }
 
 // A frame arrives at a bank time, with any rows, the ID bytes, both stores and the reply buffer lent.
@@ -226,18 +253,5 @@ pub fn answer_frame(
     if !is_sound(rows) {
         return turned_away();
     }
-    let p = read_whole_request(frame);
-    let q = p.fields;
-    let bytes = data_at(frame, p.from, p.end);
-    answer_request(
-        rows,
-        time,
-        ids,
-        q,
-        bytes,
-        IDLE_OTHERS,
-        orders,
-        mailboxes,
-        buffer,
-    )
+    answer_sound(rows, time, ids, frame, orders, mailboxes, buffer)
 }

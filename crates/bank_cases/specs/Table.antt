@@ -138,14 +138,14 @@ four = bank_with (from 0 4 (opened 1)) [] []
 
 -- an upload of n segments is opened, with a timestamp and a nonce
 abbrev pub opens_upload : ℕ → ℕ → ℕ → ℕ → Fields
-opens_upload s nonce timestamp n = upload_opening 1 s 1 (id_of nonce) timestamp n
+opens_upload s nonce timestamp n = upload_opening s 1 (id_of nonce) timestamp n
 
 -- one of 1 segment by a subscriber, in time and with a nonce that is not remembered
 abbrev pub uploads : ℕ → Fields
 uploads s = opens_upload s 900 clock 1
 
 abbrev pub downloads : ℕ → Fields
-downloads s = download_opening 1 s 1 (id_of 900) clock
+downloads s = download_opening s 1 (id_of 900) clock
 
 -- the same with another type
 abbrev pub typed : List ℕ → Fields → Fields
@@ -153,18 +153,18 @@ typed letters q = with order_type_tag (number letters) q
 
 -- segment s of the upload 0 of subscriber u, with a last mark
 abbrev pub sends : ℕ → ℕ → ℕ → Fields
-sends u s last_mark = upload_transfer 1 u 1 (id_of 0) s last_mark
+sends u s last_mark = upload_transfer u 1 (id_of 0) s last_mark
 
 -- segment s of the download 0 of subscriber u, and its receipt with a code
 abbrev pub asks : ℕ → ℕ → Fields
-asks u s = download_transfer 1 u 1 (id_of 0) s
+asks u s = download_transfer u 1 (id_of 0) s
 
 abbrev pub confirms : ℕ → ℕ → Fields
-confirms u c = receipt 1 u 1 (id_of 0) c
+confirms u c = receipt u 1 (id_of 0) c
 
 -- card 8: subscriber s signs the order of this number and owner, with a timestamp
 abbrev pub signs_at : ℕ → ℕ → List ℕ → ℕ → Fields
-signs_at timestamp s order owner = signing 1 s 1 (id_of 900) timestamp (number order) owner
+signs_at timestamp s order owner = signing s 1 (id_of 900) timestamp (number order) owner
 
 abbrev pub signs : ℕ → List ℕ → ℕ → Fields
 signs = signs_at clock
@@ -268,8 +268,8 @@ order_cases =
     -- 091010 before 091003: a last mark outside its list, to an upload that is open for subscriber 9
     (code_of (bank_with (opened 9 0 ∷ []) [] []) (with last_mark_tag 2 (sends 9 1 1)) (bytes 1) gives six 091010)
     -- a frame of 1,025 bytes of subscriber 9; one of 1,024 is read (its data is over 256 too: 091003 before 091009)
-    ∷ (code_of idle (sends 9 1 1) (bytes 973) gives six 091010)
-    ∷ (code_of idle (sends 9 1 1) (bytes 972) gives six 091003)
+    ∷ (code_of idle (sends 9 1 1) (bytes 978) gives six 091010)
+    ∷ (code_of idle (sends 9 1 1) (bytes 977) gives six 091003)
     -- 091003 before 091009: 257 bytes to it
     ∷ (code_of (bank_with (opened 9 0 ∷ []) [] []) (sends 9 1 0) (bytes 257) gives six 091003)
     -- 091009 before 091101: 257 bytes to a transaction that is not open
@@ -279,13 +279,13 @@ order_cases =
     -- 061002 before 091118: "opening form of the other direction", 32 segments
     ∷ (code_of idle (typed (ascii "FDL") (opens_upload 1 900 clock 32)) [] gives six 061002)
     -- 061002 before 091103, where 091118 cannot be: FUL in the download's form, or 0 segments, not in time
-    ∷ (code_of idle (typed (ascii "FUL") (download_opening 1 2 1 (id_of 900) late)) [] gives six 061002)
+    ∷ (code_of idle (typed (ascii "FUL") (download_opening 2 1 (id_of 900) late)) [] gives six 061002)
     ∷ (code_of idle (opens_upload 1 900 late 0) [] gives six 061002)
     -- 091118 before 091103: 32 segments, "timestamp not in time, or nonce remembered"
     ∷ (code_of idle (opens_upload 1 900 late 32) [] gives six 091118)
     ∷ (code_of (bank_with [] [] (nonce 900 ∷ [])) (opens_upload 1 900 clock 32) [] gives six 091118)
     -- 091103 before 090005: "download, mailbox empty"
-    ∷ (code_of idle (download_opening 1 1 1 (id_of 900) late) [] gives six 091103)
+    ∷ (code_of idle (download_opening 1 1 (id_of 900) late) [] gives six 091103)
     ∷ (code_of (bank_with [] [] (nonce 900 ∷ [])) (downloads 1) [] gives six 091103)
     -- 091103 before 091119, where 090005 cannot be: an upload of a subscriber with 4 open
     ∷ (code_of four (opens_upload 1 900 late 1) [] gives six 091103)
@@ -554,7 +554,7 @@ signer_cases =
 
 -- an upload of n segments is opened with a nonce, a timestamp and a number
 abbrev pub opens_chosen : ℕ → ℕ → ℕ → ℕ → List ℕ → Fields
-opens_chosen s nonce timestamp n order = chosen_opening 1 s 1 (id_of nonce) timestamp n (number order)
+opens_chosen s nonce timestamp n order = chosen_opening s 1 (id_of nonce) timestamp n (number order)
 
 -- one of 1 segment by a subscriber, in time and with a nonce that is not remembered
 abbrev pub chooses : ℕ → List ℕ → Fields
@@ -622,17 +622,17 @@ edition_cases =
     ∷ (code_of idle (versioned (ascii "H003") (uploads 1)) [] gives six 091010)
     ∷ (code_of idle (versioned (ascii "H003") (with order_number_tag (number (ascii "A000")) (downloads 2))) []
     gives six 091010)
-    -- its 76 bytes, cut: reading 13.2, "A cut frame lacks field 12", also behind 11, 0E and 07
-    ∷ (cut_to 76 idle (chooses 1 (ascii "A000")) gives six 000000)
-    ∷ (cut_to 75 idle (chooses 1 (ascii "A000")) gives six 091010)
-    ∷ (cut_to 71 idle (chooses 1 (ascii "A000")) gives six 091010)
+    -- its 71 bytes, cut: behind 0E it is no form, behind 07 a good opening of 2.5, which gets the bank's own number
+    ∷ (cut_to 71 idle (chooses 1 (ascii "A000")) gives six 000000)
+    ∷ (cut_to 70 idle (chooses 1 (ascii "A000")) gives six 091010)
     ∷ (cut_to 64 idle (chooses 1 (ascii "A000")) gives six 091010)
-    ∷ (cut_to 57 idle (chooses 1 (ascii "A000")) gives six 091010)
-    -- an upload's opening behind 07 and 06, a signing behind 06
-    ∷ (cut_to 62 idle (uploads 1) gives six 000000)
-    ∷ (cut_to 57 idle (uploads 1) gives six 091010)
-    ∷ (cut_to 52 idle (uploads 1) gives six 091010)
-    ∷ (cut_to 52 (lodged 0) (signs 2 (ascii "A000") 1) gives six 091010)
+    ∷ (cut_to 57 idle (chooses 1 (ascii "A000")) gives six 000000)
+    ∷ (asked (λ (c : SessionFrameCall). order_number (reply_in c.answer c.buffer)) clock idle
+    (take 57 (frame_of (chooses 1 (ascii "A000")) []))
+    gives order_number_of 100)
+    ∷ (cut_to 56 idle (chooses 1 (ascii "A000")) gives six 091010)
+    -- a signing cut behind 06 has the form of a download's opening
+    ∷ (cut_to 52 (lodged 0) (signs 2 (ascii "A000") 1) gives six 061002)
     ∷ []
 
 -- "It refuses a number that is none of A000 to ZZZZ with 061002": each character at its limits

@@ -37,19 +37,19 @@ downloads = 0
 -- of subscriber 1: the opening of upload n of one segment, with a number of the bank's own or a chosen one; its segment
 -- with or without the last mark; the opening of download n, and its receipt, where code 0 means taken
 abbrev opens_upload : ℕ → ℕ → BankCall
-opens_upload time n = call time (frame_of (upload_opening 1 1 1 (id_of n) time 1) [])
+opens_upload time n = call time (frame_of (upload_opening 1 1 (id_of n) time 1) [])
 
 abbrev opens_chosen : ℕ → ℕ → BankCall
-opens_chosen n number = call early (frame_of (chosen_opening 1 1 1 (id_of n) early 1 (order_number_of number)) [])
+opens_chosen n number = call early (frame_of (chosen_opening 1 1 (id_of n) early 1 (order_number_of number)) [])
 
 abbrev segment : ℕ → ℕ → BankCall
-segment n mark = call early (frame_of (upload_transfer 1 1 2 (id_of n) 1 mark) (65 ∷ []))
+segment n mark = call early (frame_of (upload_transfer 1 2 (id_of n) 1 mark) (65 ∷ []))
 
 abbrev opens_download : ℕ → BankCall
-opens_download n = call early (frame_of (download_opening 1 1 1 (id_of n) early) [])
+opens_download n = call early (frame_of (download_opening 1 1 (id_of n) early) [])
 
 abbrev receives : ℕ → ℕ → BankCall
-receives n code = call early (frame_of (receipt 1 1 2 (id_of n) code) [])
+receives n code = call early (frame_of (receipt 1 2 (id_of n) code) [])
 
 -- upload 0, A000, is booked and signed, upload 1 cancelled; downloads 2 and 3 of one file, of which 2 is fetched;
 -- download 4 of the next file is skipped; upload 5, of edition 2.4, is dropped by the call that opens upload 6; before
@@ -68,7 +68,7 @@ calls =
     ∷ File 1 (65 ∷ [])
     ∷ segment 1 0
     ∷ opens_upload early 1
-    ∷ call early (frame_of (signing 1 1 1 (id_of 7) early (order_number_of 0) 1) [])
+    ∷ call early (frame_of (signing 1 1 (id_of 7) early (order_number_of 0) 1) [])
     ∷ segment 0 1
     ∷ opens_upload early 0
     ∷ []

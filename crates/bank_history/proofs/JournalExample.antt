@@ -120,14 +120,14 @@ late = early + idle_limit + 1
 
 -- an opening of an upload of one segment by a subscriber, with its nonce
 abbrev opens : ℕ → ℕ → BankCall
-opens s nonce = call early (frame_of (upload_opening 1 s 1 (id_of nonce) early 1) [])
+opens s nonce = call early (frame_of (upload_opening s 1 (id_of nonce) early 1) [])
 
 -- subscriber 1 opens uploads 0 and 1, its A000 and A001, in places 0 and 1; upload 0 is cancelled by its segment 1 of 1
 -- without the last mark; subscriber 2 opens upload 2, its own A000, which takes place 0. The newest call first
 abbrev before_drops : List BankCall
 before_drops =
     opens 2 3
-    ∷ call early (frame_of (upload_transfer 1 1 2 (id_of 0) 1 0) (65 ∷ []))
+    ∷ call early (frame_of (upload_transfer 1 2 (id_of 0) 1 0) (65 ∷ []))
     ∷ opens 1 2
     ∷ opens 1 1
     ∷ []
@@ -188,7 +188,7 @@ drops-by-opening = refl
 
 -- a signing by a subscriber, with its nonce, of the order A000 of subscriber 1
 abbrev signs_first : ℕ → ℕ → BankCall
-signs_first s nonce = call early (frame_of (signing 1 s 1 (id_of nonce) early (order_number_of 0) 1) [])
+signs_first s nonce = call early (frame_of (signing s 1 (id_of nonce) early (order_number_of 0) 1) [])
 
 -- subscriber 1 opens upload 0, its A000, and segment 1 of 1 books it; subscriber 2 signs it, signs it again, and its
 -- owner signs it. The newest call first
@@ -197,7 +197,7 @@ with_signings =
     signs_first 1 4
     ∷ signs_first 2 3
     ∷ signs_first 2 2
-    ∷ call early (frame_of (upload_transfer 1 1 2 (id_of 0) 1 1) (65 ∷ []))
+    ∷ call early (frame_of (upload_transfer 1 2 (id_of 0) 1 1) (65 ∷ []))
     ∷ opens 1 1
     ∷ []
 

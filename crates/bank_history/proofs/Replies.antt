@@ -294,7 +294,6 @@ cancelling-code code.UserUnknown = refl
 cancelling-code code.InvalidOrderType = refl
 cancelling-code code.SegmentSizeExceeded = refl
 cancelling-code code.InvalidXml = refl
-cancelling-code code.InvalidHostId = refl
 cancelling-code code.UnknownTransaction = refl
 cancelling-code code.TransactionAbort = refl
 cancelling-code code.MessageReplay = refl

@@ -8,7 +8,6 @@ use mathlib.Core.Path.{◌≡◌, refl, sym, ap, ◌∙◌, subst}
 use native.Mathlib.Decide.{ℕ_discrete}
 use lib.ListN.{length, replicate}
 use borrow.Author.Tests.{eq-eqb, ne_eqb}
-use Rattle.octets.specs.Bytes.{Bytes}
 use Rattle.message.specs.Verdicts.{decide}
 use Rattle.journal.specs.Row.{Journal}
 use Rattle.bank_state.specs.Limits.{store_bytes}
@@ -42,7 +41,7 @@ use Rattle.bank_history.specs.Journal.{journal_of}
 use Rattle.bank_history.proofs.OnSessions.{on-sessions}
 use Rattle.image_calls.specs.declared.calls.TakenUp.TheVariants as up_answer
 use Rattle.image_calls.specs.Calls.{image_length, lengths_right, PutAway, TakeUp, take_up_of, take_up}
-use Rattle.image_calls.proofs.Theorems.{session-written, refused-up}
+use Rattle.image_calls.proofs.Theorems.{session-written}
 use Rattle.image_calls.proofs.Again.{put-taken}
 use Rattle.image_admitted.specs.Fresh.{fresh_session}
 use Rattle.image_admitted.specs.Reached.{InList, after_file}
@@ -53,7 +52,6 @@ use Rattle.image_admitted.proofs.Theorems.{
   admitted-takes,
   frame-admitted,
   file-admitted,
-  taken-admitted,
 }
 use Rattle.bank_resumed.specs.Calls.{
   HostCall,
@@ -72,7 +70,7 @@ use Rattle.bank_resumed.specs.Calls.{
   none,
   more,
 }
-use Rattle.bank_resumed.specs.Host.{Keeps, Stands, Covered}
+use Rattle.bank_resumed.specs.Host.{Keeps, Covered}
 use Rattle.bank_resumed.specs.Host as keeps
 
 -- ---- one call
@@ -120,7 +118,7 @@ file-refused answers.NoMailbox b mailbox file mailboxes orders n = refl
 file-refused answers.WrongFile b mailbox file mailboxes orders n = refl
 file-refused answers.MailboxFull b mailbox file mailboxes orders n = refl
 
-module _ {m : LentSession} {ks : List HostCall} (c : Stands m ks) where
+module _ {m : LentSession} {ks : List HostCall} (c : Covered m ks) where
   abbrev s : Left
   s = left_by ks
 
@@ -152,9 +150,10 @@ module _ {m : LentSession} {ks : List HostCall} (c : Stands m ks) where
         subst (Standing answered.session) (sym (numbered-stays (frame_arrives m a) s n))
         (subst (λ (x : LentSession). Standing x s) (sym (frame-away n)) c.standing)
 
-    pub frame-stands : Stands answered.session (frame_arrives m a ∷ ks)
+    frame-covered : Covered answered.session (frame_arrives m a ∷ ks)
     unfolding left_by
-    frame-stands = record {
+    frame-covered = record {
+      allowed = more (frame-allowed s m a c.standing) c.allowed;
       standing = frame-standing (ℕ_discrete answered.number 0);
       admitted = frame-admitted m c.admitted.0 c.admitted.1 a brought;
     }
@@ -197,45 +196,13 @@ module _ {m : LentSession} {ks : List HostCall} (c : Stands m ks) where
         subst (Standing (after_file m mailbox file)) (sym (numbered-stays put s n))
         (file-away n ∙ c.standing.0, file-journal, file-counted)
 
-    pub file-stands : Stands (after_file m mailbox file) (put ∷ ks)
+    file-covered : Covered (after_file m mailbox file) (put ∷ ks)
     unfolding left_by
-    file-stands = record {
+    file-covered = record {
+      allowed = more (file-allowed s m mailbox file c.standing) c.allowed;
       standing = file-standing (ℕ_discrete (call_number put) 0);
       admitted = file-admitted m c.admitted.0 c.admitted.1 mailbox file;
     }
-
-  -- put away, into any buffer; taken up, any image
-  away-standing : (buffer : List ℕ) → Dec (call_number (puts_away m buffer) ≡ 0) → Standing m (exec (puts_away m buffer) s)
-  away-standing buffer (yes z) = subst (Standing m) (sym (carried (puts_away m buffer) s z)) c.standing
-  away-standing buffer (no n) = subst (Standing m) (sym (numbered-stays (puts_away m buffer) s n)) c.standing
-
-  pub away-stands : (buffer : List ℕ) → Stands m (puts_away m buffer ∷ ks)
-  unfolding left_by
-  away-stands buffer = record {
-    standing = away-standing buffer (ℕ_discrete (call_number (puts_away m buffer)) 0);
-    admitted = c.admitted;
-  }
-
-  up-standing : (image : List ℕ) → Dec (call_number (takes_up m image) ≡ 0) →
-      Standing (take_up m image).session (exec (takes_up m image) s)
-  up-standing image (yes z) =
-      subst (Standing (take_up m image).session) (sym (carried (takes_up m image) s z)) (refl, refl, refl)
-  up-standing image (no n) =
-      subst (Standing (take_up m image).session) (sym (numbered-stays (takes_up m image) s n))
-      (subst (λ (x : LentSession). Standing x s) (sym (refused-up m image n)) c.standing)
-
-  pub up-stands : (image : List ℕ) → Bytes image → Stands (take_up m image).session (takes_up m image ∷ ks)
-  unfolding left_by
-  up-stands image bytes = record {
-    standing = up-standing image (ℕ_discrete (call_number (takes_up m image)) 0);
-    admitted = taken-admitted m c.admitted image bytes;
-  }
-
-  -- a call given a number, whatever it is lent
-  pub numbered-stands : (k : HostCall) → (call_number k ≡ 0 → ⊥) → Stands m (k ∷ ks)
-  unfolding left_by
-  numbered-stands k n =
-      record { standing = subst (Standing m) (sym (numbered-stays k s n)) c.standing; admitted = c.admitted }
 
   -- both calls are given no number, and the session taken up is the one put away
   module _ (buffer : List ℕ) (room : image_length ≤ length buffer) (n : LentSession) (long : lengths_right n ≡ true) where
@@ -254,39 +221,20 @@ module _ {m : LentSession} {ks : List HostCall} (c : Stands m ks) where
     up-unnumbered : call_number up ≡ 0
     up-unnumbered = ap (λ (k : TakeUp). k.number) up-taken
 
-    image-in : In (image_put m buffer) (left_by (away ∷ ks)).images
+    resumed-covered : Covered (take_up n (image_put m buffer)).session (up ∷ away ∷ ks)
     unfolding left_by
-    image-in =
-        subst (λ (t : Left). In (image_put m buffer) t.images) (sym (carried away s away-unnumbered)) (here refl)
-
-    resumed-stands : Stands (take_up n (image_put m buffer)).session (up ∷ away ∷ ks)
-    unfolding left_by
-    resumed-stands = record {
+    resumed-covered = record {
+      allowed = more
+          (λ _. subst (λ (t : Left). In (image_put m buffer) t.images) (sym (carried away s away-unnumbered))
+          (here refl))
+          (more (λ _. c.standing) c.allowed);
       standing = subst (Standing (take_up n (image_put m buffer)).session)
           (sym (carried up (exec away s) up-unnumbered)) (refl, refl, refl);
       admitted = subst InList (sym (ap (λ (k : TakeUp). k.session) up-taken)) c.admitted;
     }
 
-pub fresh-held : Stands fresh_session []
-fresh-held = record { standing = fresh-stands; admitted = fresh-admitted }
-
 pub keeps-covered : {m : LentSession} {ks : List HostCall} → Keeps m ks → Covered m ks
-keeps-covered keeps.fresh = record { allowed = none; stands = fresh-held }
-keeps-covered (keeps.frame {m} {ks} k a brought) =
-    let c = keeps-covered k in
-    record {
-      allowed = more (frame-allowed (left_by ks) m a c.stands.standing) c.allowed;
-      stands = frame-stands c.stands a brought;
-    }
-keeps-covered (keeps.file {m} {ks} k mailbox file) =
-    let c = keeps-covered k in
-    record {
-      allowed = more (file-allowed (left_by ks) m mailbox file c.stands.standing) c.allowed;
-      stands = file-stands c.stands mailbox file;
-    }
-keeps-covered (keeps.resumed k buffer room n long) =
-    let c = keeps-covered k in
-    record {
-      allowed = more (λ _. image-in c.stands buffer room n long) (more (λ _. c.stands.standing) c.allowed);
-      stands = resumed-stands c.stands buffer room n long;
-    }
+keeps-covered keeps.fresh = record { allowed = none; standing = fresh-stands; admitted = fresh-admitted }
+keeps-covered (keeps.frame k a brought) = frame-covered (keeps-covered k) a brought
+keeps-covered (keeps.file k mailbox file) = file-covered (keeps-covered k) mailbox file
+keeps-covered (keeps.resumed k buffer room n long) = resumed-covered (keeps-covered k) buffer room n long

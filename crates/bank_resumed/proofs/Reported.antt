@@ -11,19 +11,17 @@ use Rattle.bank_session.proofs.Session.{takes-counts}
 use Rattle.image_admitted.proofs.Holds.{lengths-told}
 use Rattle.image_admitted.proofs.Theorems.{admitted-sound, admitted-takes}
 use Rattle.bank_resumed.specs.Calls.{HostCall}
-use Rattle.bank_resumed.specs.Host.{Keeps, Covered, Reported}
+use Rattle.bank_resumed.specs.Host.{Keeps, Reported}
 use Rattle.bank_resumed.proofs.Bank.{resumed-bank}
 use Rattle.bank_resumed.proofs.Guards.{keeps-covered}
 
-pub covered-reported : {m : LentSession} {ks : List HostCall} → Covered m ks → Reported m ks
+pub keeps-reported : {m : LentSession} {ks : List HostCall} → Keeps m ks → Reported m ks
 unfolding count_call
-covered-reported {m} {ks} c =
-    let right = c.stands.admitted.0 in
+keeps-reported {m} {ks} k =
+    let c = keeps-covered k in
+    let right = c.admitted.0 in
     rw (
       eq-eqb (length m.rows) session_size (lengths-told m right).rows,
-      admitted-sound m right c.stands.admitted.1,
-      takes-counts m (admitted-takes m right c.stands.admitted.1),
-    ) (ap (λ (n : Counts). Counted n) (c.stands.standing.2 ∙ (resumed-bank c.allowed).counted))
-
-pub keeps-reported : {m : LentSession} {ks : List HostCall} → Keeps m ks → Reported m ks
-keeps-reported k = covered-reported (keeps-covered k)
+      admitted-sound m right c.admitted.1,
+      takes-counts m (admitted-takes m right c.admitted.1),
+    ) (ap (λ (n : Counts). Counted n) (c.standing.2 ∙ (resumed-bank c.allowed).counted))

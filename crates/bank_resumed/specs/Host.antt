@@ -34,15 +34,11 @@ pub data Keeps : LentSession → List HostCall → Type 0 where
       (n : LentSession) → lengths_right n ≡ true →
       Keeps (take_up n (image_put m buffer)).session (takes_up n (image_put m buffer) ∷ puts_away m buffer ∷ ks)
 
--- what it holds is the session that stands, and this is one of card 2's list, whatever image was taken up
-pub record Stands (m : LentSession) (ks : List HostCall) : Type 0 where
-  pub standing : Standing m (left_by ks)
-  pub admitted : InList m
-
--- and its list is allowed
+-- its list is allowed, what it holds is the session that stands, and this is one of card 2's list
 pub record Covered (m : LentSession) (ks : List HostCall) : Type 0 where
   pub allowed : AllAllowed ks
-  pub stands : Stands m ks
+  pub standing : Standing m (left_by ks)
+  pub admitted : InList m
 
 -- card 12, "The unit reports seven counts in this order, each equal to the number so defined": asked of the session that
 -- it holds, whatever was put away and taken up before

@@ -1,12 +1,10 @@
 // The host's calls on a session: a frame arrives, and a file goes into a mailbox. `frame_arrives` alone has the
 // journal's row; what it calls has its length, and serves rows that are held as numbers.
-ghost use Rattle.std.specs.Prelude.{◌≡◌, ℕ, List, [], length};
-ghost use Rattle.frame_row.specs.Row.{data_of};
-ghost use Rattle.frame_reader.specs.Reader.{read_request};
+ghost use Rattle.std.specs.Prelude.{◌≡◌, List, [], length};
 ghost use Rattle.journal.specs.declared.event.Event.{Event};
 ghost use Rattle.journal.specs.Row.{takes_events, row_after};
 ghost use Rattle.bank_events.specs.Entries.{Holds};
-ghost use Rattle.bank.specs.Call.{ReadFrom, input_beside, frame_input};
+ghost use Rattle.bank.specs.Call.{frame_input};
 ghost use Rattle.bank.specs.Lent.{no_reply, lent_file_call_of};
 ghost use Rattle.bank_session.specs.Session.{session, session_frame_call_of, session_frame_call, session_file_call};
 
@@ -18,9 +16,6 @@ use bank::mailbox::FileAnswer;
 use bank_clock::clock::larger;
 use bank_events::actions::no_events;
 use bank_rows::layout::{CLOCK_AT, STATE_SIZE};
-use bank_state::limits::IDLE_OTHERS;
-use frame_reader::reader::{data_at, read_whole_request};
-use frame_table::fields::Fields;
 use journal::event::{Batch, Event, RECORD_COUNT};
 use journal::row::enter;
 use opening_counts::seven::can_grow;
@@ -64,27 +59,22 @@ fn turned_away() -> FrameCore
     }
 }
 
-// A request, read, arrives, with all of the session lent but the row, whose length is told; `bytes` are its data, and
-// the other banks count `others`.
-pub fn request_core(
+// A frame arrives, with all of the session lent but the row, whose length is told.
+pub fn frame_core(
     rows: &mut [u64],
     records: usize,
     time: u64,
     ids: &[u8],
-    q: Fields,
-    bytes: &[u8],
-    others: u64,
+    frame: &[u8],
     orders: &mut [u8],
     mailboxes: &mut [u8],
     buffer: &mut [u8],
 ) -> FrameCore
-    requires { ReadFrom q bytes.now }
-    ensures { (row : List Event) (frame : List ℕ) → length row ≡ records → q ≡ read_request frame →
-        bytes.now ≡ data_of frame → session_frame_call_of result.out
+    ensures { (row : List Event) → length row ≡ records → session_frame_call_of result.out
         (session rows.new (row_after result.before result.clock result.batch row)
         orders.new mailboxes.new) buffer.new
         ≡ session_frame_call (session rows.old row orders.old mailboxes.old)
-        (input_beside others time ids.now frame buffer.old) }
+        (frame_input time ids.now frame.now buffer.old) }
 {
     if rows.len() != SESSION_SIZE {
         return turned_away();
@@ -102,9 +92,7 @@ pub fn request_core(
         &mut rows[..STATE_SIZE],
         time,
         ids,
-        q,
-        bytes,
-        others,
+        frame,
         orders,
         mailboxes,
         buffer,
@@ -119,40 +107,6 @@ pub fn request_core(
         clock,
         batch,
     }
-}
-
-// A frame arrives, with all of the session lent but the row, whose length is told; the other banks are idle.
-pub fn frame_core(
-    rows: &mut [u64],
-    records: usize,
-    time: u64,
-    ids: &[u8],
-    frame: &[u8],
-    orders: &mut [u8],
-    mailboxes: &mut [u8],
-    buffer: &mut [u8],
-) -> FrameCore
-    ensures { (row : List Event) → length row ≡ records → session_frame_call_of result.out
-        (session rows.new (row_after result.before result.clock result.batch row)
-        orders.new mailboxes.new) buffer.new
-        ≡ session_frame_call (session rows.old row orders.old mailboxes.old)
-        (frame_input time ids.now frame.now buffer.old) }
-{
-    let p = read_whole_request(frame);
-    let q = p.fields;
-    let bytes = data_at(frame, p.from, p.end);
-    request_core(
-        rows,
-        records,
-        time,
-        ids,
-        q,
-        bytes,
-        IDLE_OTHERS,
-        orders,
-        mailboxes,
-        buffer,
-    )
 }
 
 // A frame arrives at a bank time, with the session's numbers, the journal's row, the ID bytes, both stores and the

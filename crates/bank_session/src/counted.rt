@@ -1,17 +1,15 @@
 // The bank's call on its rows, and the counts after it: moved by its verdict, and by how far the open transactions fall
 // over its clock and over its request.
-ghost use Rattle.std.specs.Prelude.{◌≡◌, true, List, [], ℕ, ◌-◌, ◌≤◌};
-ghost use Rattle.frame_row.specs.Row.{data_of};
-ghost use Rattle.frame_reader.specs.Reader.{read_request};
+ghost use Rattle.std.specs.Prelude.{◌≡◌, true, [], ◌-◌, ◌≤◌};
 ghost use Rattle.opening_counts.specs.Counts.{most_moved, can_grow, counts_after};
 ghost use Rattle.bank_events.specs.Entries.{Holds};
 ghost use Rattle.bank_steps.specs.Lent.{lent, state_of};
-ghost use Rattle.bank.specs.Call.{ReadFrom, input_beside};
+ghost use Rattle.bank.specs.Call.{frame_input};
 ghost use Rattle.bank.specs.Journal.{entered_by, if_answered};
 ghost use Rattle.bank.specs.Lent.{no_reply, lent_frame_call_of, lent_frame_call};
 ghost use Rattle.bank_session.specs.Counts.{counts_over, counts_by};
 
-use bank::call::{FrameAnswer, FrameOut, answer_request};
+use bank::call::{FrameAnswer, FrameOut, answer_sound};
 use bank_clock::clock::larger;
 use bank_clock::idle::idle_count;
 use bank_events::actions::no_events;
@@ -19,7 +17,6 @@ use bank_lists::counts::open_count;
 use bank_rows::numbers::clock;
 use bank_sound::sound::is_sound;
 use bank_verdicts::verdict::Verdict;
-use frame_table::fields::Fields;
 use journal::event::Batch;
 use opening_counts::moves::{counts_after, less};
 use opening_counts::seven::Counts;
@@ -67,45 +64,41 @@ fn unanswered(c: Counts) -> CountedStep
     }
 }
 
-// A request, read, arrives at a bank time, with the bank's rows, the ID bytes, both stores and the reply buffer lent;
-// `bytes` are its data, and the other banks count `others`.
+// A frame arrives at a bank time, with the bank's rows, the ID bytes, both stores and the reply buffer lent.
 pub(crate) fn answer_counted(
     rows: &mut [u64],
     time: u64,
     ids: &[u8],
-    q: Fields,
-    bytes: &[u8],
-    others: u64,
+    frame: &[u8],
     orders: &mut [u8],
     mailboxes: &mut [u8],
     buffer: &mut [u8],
     c: Counts,
 ) -> CountedStep
-    requires { (can_grow c ≡ true) × ReadFrom q bytes.now }
-    ensures { (frame : List ℕ) → q ≡ read_request frame → bytes.now ≡ data_of frame →
-        (lent_frame_call_of result.out (lent rows.new orders.new mailboxes.new)
+    requires { can_grow c ≡ true }
+    ensures { (lent_frame_call_of result.out (lent rows.new orders.new mailboxes.new)
         buffer.new
         ≡ lent_frame_call (lent rows.old orders.old mailboxes.old)
-        (input_beside others time ids.now frame buffer.old))
+        (frame_input time ids.now frame.now buffer.old))
         × Holds result.batch (if_answered result.out.answer
         (entered_by (state_of (lent rows.old orders.old mailboxes.old))
-        (input_beside others time ids.now frame buffer.old)))
+        (frame_input time ids.now frame.now buffer.old)))
         × (result.counts ≡ counts_by result.out.answer
         (counts_over (state_of (lent rows.old orders.old mailboxes.old))
-        (input_beside others time ids.now frame buffer.old) c) c) }
+        (frame_input time ids.now frame.now buffer.old) c) c) }
 {
     if !is_sound(rows) {
         return unanswered(c);
     }
     let before = open_count(rows) as u64;
     let gone = idle_count(rows, larger(clock(rows), time)) as u64;
-    let step = answer_request(rows, time, ids, q, bytes, others, orders, mailboxes, buffer);
+    let step = answer_sound(rows, time, ids, frame, orders, mailboxes, buffer);
     let left = open_count(rows) as u64;
-    let ended = others_of(before, gone, left);
+    let others = others_of(before, gone, left);
     let out = step.out;
     let answer = out.answer;
     let verdict = step.verdict;
-    let counts = moved(answer, verdict, gone, ended, c);
+    let counts = moved(answer, verdict, gone, others, c);
     let batch = step.batch;
     CountedStep { out, batch, counts }
 }

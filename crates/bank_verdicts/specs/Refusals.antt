@@ -76,7 +76,6 @@ cancels code.UserUnknown = false
 cancels code.InvalidOrderType = false
 cancels code.SegmentSizeExceeded = false
 cancels code.InvalidXml = false
-cancels code.InvalidHostId = false
 cancels code.UnknownTransaction = false
 cancels code.TransactionAbort = true
 cancels code.MessageReplay = false

@@ -33,34 +33,34 @@ pub data HostCall : Type 0 where
   request : ℕ → Fields → List ℕ → HostCall
 
 abbrev pub upload : ℕ → ℕ → HostCall
-upload timestamp n = request clock (upload_opening 1 1 1 (id_of 0) timestamp n) []
+upload timestamp n = request clock (upload_opening 1 1 (id_of 0) timestamp n) []
 
 -- an upload of one segment by a subscriber, with a nonce of its own
 abbrev pub upload_by : ℕ → ℕ → HostCall
-upload_by s nonce = request clock (upload_opening 1 s 1 (id_of nonce) clock 1) []
+upload_by s nonce = request clock (upload_opening s 1 (id_of nonce) clock 1) []
 
 -- card 11: one of edition 2.4 at a time, of n segments, with a nonce and a number
 abbrev pub chosen_at : ℕ → ℕ → ℕ → ℕ → List ℕ → HostCall
-chosen_at time s nonce n order = request time (chosen_opening 1 s 1 (id_of nonce) time n (number order)) []
+chosen_at time s nonce n order = request time (chosen_opening s 1 (id_of nonce) time n (number order)) []
 
 abbrev pub chosen_by : ℕ → ℕ → ℕ → List ℕ → HostCall
 chosen_by = chosen_at clock
 
 abbrev pub sent_at : ℕ → ℕ → ℕ → HostCall
-sent_at time s last_mark = request time (upload_transfer 1 1 1 (id_of 0) s last_mark) (7 ∷ [])
+sent_at time s last_mark = request time (upload_transfer 1 1 (id_of 0) s last_mark) (7 ∷ [])
 
 abbrev pub sent : ℕ → ℕ → HostCall
 sent = sent_at clock
 
 abbrev pub download : HostCall
-download = request clock (download_opening 1 1 1 (id_of 0) clock) []
+download = request clock (download_opening 1 1 (id_of 0) clock) []
 
 abbrev pub receipt0 : HostCall
-receipt0 = request clock (receipt 1 1 1 (id_of 0) 0) []
+receipt0 = request clock (receipt 1 1 (id_of 0) 0) []
 
 -- card 8: the order A000 of subscriber 1 is signed by a subscriber, with a nonce
 abbrev pub sign_by : ℕ → ℕ → HostCall
-sign_by s nonce = request clock (signing 1 s 1 (id_of nonce) clock (number (ascii "A000")) 1) []
+sign_by s nonce = request clock (signing s 1 (id_of nonce) clock (number (ascii "A000")) 1) []
 
 -- a fresh bank, "and every lent byte kept between calls 0"
 abbrev pub start_of : Bank → BankState
@@ -154,13 +154,13 @@ whole = replicate segment_bytes 7
 -- the lengths of the request forms with a whole segment, and of the reply forms
 unfoldable pub request_lengths : List ℕ
 request_lengths =
-    length (frame_of (upload_opening 1 1 1 (id_of 0) clock 1) [])
-    ∷ length (frame_of (download_opening 1 1 1 (id_of 0) clock) [])
-    ∷ length (frame_of (upload_transfer 1 1 1 (id_of 0) 1 1) whole)
-    ∷ length (frame_of (download_transfer 1 1 1 (id_of 0) 1) [])
-    ∷ length (frame_of (receipt 1 1 1 (id_of 0) 0) [])
-    ∷ length (frame_of (signing 1 1 1 (id_of 0) clock 0 1) [])
-    ∷ length (frame_of (chosen_opening 1 1 1 (id_of 0) clock 1 0) [])
+    length (frame_of (upload_opening 1 1 (id_of 0) clock 1) [])
+    ∷ length (frame_of (download_opening 1 1 (id_of 0) clock) [])
+    ∷ length (frame_of (upload_transfer 1 1 (id_of 0) 1 1) whole)
+    ∷ length (frame_of (download_transfer 1 1 (id_of 0) 1) [])
+    ∷ length (frame_of (receipt 1 1 (id_of 0) 0) [])
+    ∷ length (frame_of (signing 1 1 (id_of 0) clock 0 1) [])
+    ∷ length (frame_of (chosen_opening 1 1 (id_of 0) clock 1 0) [])
     ∷ []
 
 unfoldable pub reply_lengths : List ℕ
@@ -221,18 +221,17 @@ series_cases =
     gives (six 0 ∷ six 61099 ∷ six 61099 ∷ []))
     ∷ []
 
--- with a timestamp of 8 bytes and card 13's bank of 2: "Frame lengths: upload opening" 62, the largest request 308,
--- "largest reply 312."; card 8's signing, 01 to 06, 0E, 0F, 10, 12 with 1, 2, 4, 3, 16, 8, 4, 5, 2 and 2 bytes, and its
--- reply, 01 03 0D with 1, 4 and 6; card 11's opening, 01 to 07, 0E, 11, 12 with 1, 2, 4, 3, 16, 8, 2, 4, 4 and 2, and
--- its reply, 01 03 08 0D with 1, 4, 16 and 6
+-- with a timestamp of 8 bytes: "Frame lengths: upload opening" 57, "largest request 303, largest reply 312."; card 8's
+-- signing, 01 to 06, 0E, 0F, 10 with 1, 2, 4, 3, 16, 8, 4, 5 and 2 bytes, and its reply, 01 03 0D with 1, 4 and 6; card
+-- 11's opening, 01 to 07, 0E, 11 with 1, 2, 4, 3, 16, 8, 2, 4 and 4, and its reply, 01 03 08 0D with 1, 4, 16 and 6
 unfoldable pub length_cases : List Row
 length_cases =
-    (numbers (length (frame_of (upload_opening 1 1 1 (id_of 0) clock 1) []) ∷ []) gives (62 ∷ []))
-    ∷ (numbers (length (frame_of (signing 1 1 1 (id_of 0) clock 0 1) []) ∷ []) gives (77 ∷ []))
+    (numbers (length (frame_of (upload_opening 1 1 (id_of 0) clock 1) []) ∷ []) gives (57 ∷ []))
+    ∷ (numbers (length (frame_of (signing 1 1 (id_of 0) clock 0 1) []) ∷ []) gives (72 ∷ []))
     ∷ (numbers (length (frame_of (refusal 1 1 code.Ok) []) ∷ []) gives (20 ∷ []))
-    ∷ (numbers (length (frame_of (chosen_opening 1 1 1 (id_of 0) clock 1 0) []) ∷ []) gives (76 ∷ []))
+    ∷ (numbers (length (frame_of (chosen_opening 1 1 (id_of 0) clock 1 0) []) ∷ []) gives (71 ∷ []))
     ∷ (numbers (length (frame_of (chosen_opened 1 (id_of 0)) []) ∷ []) gives (39 ∷ []))
-    ∷ (numbers (largest request_lengths ∷ []) gives (308 ∷ []))
+    ∷ (numbers (largest request_lengths ∷ []) gives (303 ∷ []))
     ∷ (numbers (largest reply_lengths ∷ []) gives (312 ∷ []))
     ∷ []
 

@@ -35,12 +35,12 @@ fn ask(q: Fields, bytes: &[u8], rows: &mut [u64], orders: &mut [u8], mailboxes: 
 
 // An upload opening of n segments by subscriber 1; the nonce is the number of segments.
 fn opening(n: u64) -> Fields {
-    upload_opening(1, 1, 1, Bits128 { high: 0, low: n }, CLOCK, n)
+    upload_opening(1, 1, Bits128 { high: 0, low: n }, CLOCK, n)
 }
 
 // A segment of the upload that was opened first.
 fn segment(s: u64) -> Fields {
-    upload_transfer(1, 1, 1, Bits128 { high: 0, low: 0 }, s, 0)
+    upload_transfer(1, 1, Bits128 { high: 0, low: 0 }, s, 0)
 }
 
 // A line: what is sent, and the code that came.
@@ -121,7 +121,7 @@ fn print_codes_06() {
     print_code(ReturnCode::RecoverySync, b"EBICS_TX_RECOVERY_SYNC\n");
 }
 
-// The codes from 090005 to 091011.
+// The codes from 090005 to 091010.
 fn print_codes_09() {
     print_code(
         ReturnCode::NoDownloadDataAvailable,
@@ -134,7 +134,6 @@ fn print_codes_09() {
         b"EBICS_SEGMENT_SIZE_EXCEEDED\n",
     );
     print_code(ReturnCode::InvalidXml, b"EBICS_INVALID_XML\n");
-    print_code(ReturnCode::InvalidHostId, b"EBICS_INVALID_HOST_ID\n");
 }
 
 // The codes from 091101 on.

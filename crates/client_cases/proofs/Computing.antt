@@ -21,7 +21,7 @@ unfolding frames messages choices client_calls.is_written client_calls.request_w
     decisions.on_download decisions.is_answer decisions.on_reply decisions.on_no_reply
     next_run.begun next_run.go_on next_run.repeated
     next_run.ended runs.chosen_number requests.nonce_of requests.outstanding requests.outstanding_data
-    rulings.wrong_lengths rulings.outside rulings.time_first rulings.ruling_at_begin
+    rulings.wrong_lengths rulings.no_subscriber rulings.time_first rulings.ruling_at_begin
     rulings.begin_ruling rulings.ruling_not_begun rulings.ruling_running rulings.ruling_ended
     rulings.run_ruling journal.is_of journal.lookup client_journal.answer_to client_journal.journal_call
     table.after

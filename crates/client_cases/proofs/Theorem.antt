@@ -11,7 +11,6 @@ use Rattle.client_cases.specs.Table.{
   edition_cases,
   not_lodged_cases,
   download_cases,
-  bank_cases,
   client_cases,
 }
 use Rattle.client_cases.proofs.Computing.{calls}
@@ -40,13 +39,8 @@ downloads-hold : Holds come download_cases
 unfolding download_cases calls
 downloads-hold = listed download_cases refl
 
-banks-hold : Holds come bank_cases
-unfolding bank_cases calls
-banks-hold = listed bank_cases refl
-
 pub client-cases-hold : Holds come client_cases
 unfolding client_cases
 client-cases-hold =
     both begins-hold
-    (both runs-hold
-    (both uploads-hold (both editions-hold (both not-lodged-hold (both downloads-hold banks-hold)))))
+    (both runs-hold (both uploads-hold (both editions-hold (both not-lodged-hold downloads-hold))))

@@ -1,9 +1,9 @@
 -- Document 01, "The client's owner" and "The client run", as rows: the numbers in their order and at their limits, what
--- fits each step and what does not, the closing words, card 11's editions and card 13's banks. The calls are
--- `begin_call`, `reply_call`, `no_reply_call` and `journal_call`. Digits stand here as in the paper.
+-- fits each step and what does not, the closing words, and card 11's editions. The calls are `begin_call`, `reply_call`,
+-- `no_reply_call` and `journal_call`. Digits stand here as in the paper.
 use Rattle.std.specs.Prelude.{ℕ, List, [], ◌∷◌, ◌++◌, replicate, take}
 use Rattle.frame_table.specs.declared.fields.Fields.{Fields}
-use Rattle.frame_table.specs.Names.{phase, segment, order_number, bank, no_fields, with, with_wide}
+use Rattle.frame_table.specs.Names.{phase, segment, order_number, no_fields, with, with_wide}
 use Rattle.frame_table.specs.Table.{phase_tag, transaction_tag, segment_tag, return_code_tag}
 use Rattle.frame_reader.specs.Reader.{read_request}
 use Rattle.frame_writer.specs.Writer.{frame_of}
@@ -61,10 +61,6 @@ pub data OwnerCall : Type 0 where
   -- the same of 1 byte with these terms: the order number that the request has, and the one that the run has then
   carries : Direction → RunTerms → List Event → OwnerCall
   learns : RunTerms → List Event → OwnerCall
-  -- the same of a run for this bank: the bank that the request names
-  names : ℕ → Direction → ℕ → List Event → OwnerCall
-  -- begin of an upload of 1 byte comes to a run for this bank, with first exchange number
-  begins_for : ℕ → ClientRun → ℕ → OwnerCall
   -- begin comes to a run, with direction, subscriber and first exchange number, at a time, lent a payload, a file
   -- buffer and a request buffer of so many bytes
   begins : ClientRun → Direction → ℕ → ℕ → ℕ → ℕ → ℕ → ℕ → OwnerCall
@@ -74,8 +70,8 @@ pub data OwnerCall : Type 0 where
   -- a run is handed a journal of so many records
   reads : ClientRun → ℕ → OwnerCall
 
--- what comes of it: a request of a phase and for a segment (0 where it has none), an order number or a bank (0 where
--- there is none), a closing word, nothing, or a number
+-- what comes of it: a request of a phase and for a segment (0 where it has none), an order number (0 where there is
+-- none), a closing word, nothing, or a number
 pub data Outcome : Type 0 where
   issues : ℕ → ℕ → Outcome
   numbered : ℕ → Outcome
@@ -90,12 +86,11 @@ outcome_by answer.Ignored c = ignores
 outcome_by (answer.Closed w) c = closes w
 outcome_by (answer.Refused r) c = gets c.number
 
--- a field of it, 0 where there is no request
-abbrev pub field_in : (Fields → ℕ) → Answer → ClientCall → ℕ
-field_in field (answer.Request n) c = field (read_request (take n c.request))
-field_in field answer.Ignored c = 0
-field_in field (answer.Closed w) c = 0
-field_in field (answer.Refused r) c = 0
+abbrev pub number_in : Answer → ClientCall → ℕ
+number_in (answer.Request n) c = order_number (read_request (take n c.request))
+number_in answer.Ignored c = 0
+number_in (answer.Closed w) c = 0
+number_in (answer.Refused r) c = 0
 
 abbrev pub outcome_of : ClientCall → Outcome
 outcome_of c = outcome_by c.answer c
@@ -104,9 +99,9 @@ outcome_of c = outcome_by c.answer c
 abbrev pub bytes : ℕ → List ℕ
 bytes n = replicate n 7
 
--- "12 lent bytes", a file buffer of 7,936 at first, a request buffer of 308
+-- "12 lent bytes", a file buffer of 7,936 at first, a request buffer of 303
 abbrev pub lending : ℕ → List ℕ → Lent
-lending payload file = lent_of clock (bytes 12) (bytes payload) file (replicate 308 0)
+lending payload file = lent_of clock (bytes 12) (bytes payload) file (replicate 303 0)
 
 abbrev pub lending_at : ℕ → ℕ → ℕ → ℕ → Lent
 lending_at time payload file request = lent_of time (bytes 12) (bytes payload) (replicate file 0) (replicate request 0)
@@ -119,7 +114,7 @@ after n (silence ∷ l) c = after n l (no_reply_call c.run (lending n c.file))
 
 -- card 11: "told its edition, and in 2.4 its number, at begin"
 abbrev pub told : Edition → ℕ → RunTerms
-told edition number = record { bank = 1; edition = edition; number = number }
+told edition number = record { edition = edition; number = number }
 
 abbrev pub choosing : RunTerms
 choosing = told V24 (order_number_of 7)
@@ -130,20 +125,14 @@ last_call direction terms n events =
     after n events (begin_call not_begun (parameters_of direction 1 7 terms) (lending n (replicate 7936 0)))
 
 abbrev pub come : OwnerCall → Outcome
-come (runs direction n events) = outcome_of (last_call direction (terms_of25 1) n events)
+come (runs direction n events) = outcome_of (last_call direction terms_of25 n events)
 come (chooses n events) = outcome_of (last_call Upload choosing n events)
 come (carries direction terms events) =
     let c = last_call direction terms 1 events in
-    numbered (field_in order_number c.answer c)
+    numbered (number_in c.answer c)
 come (learns terms events) = numbered (last_call Upload terms 1 events).run.number
-come (names k direction n events) =
-    let c = last_call direction (terms_of25 k) n events in
-    numbered (field_in bank c.answer c)
-come (begins_for k c first) =
-    outcome_of (begin_call c (parameters_of Upload 1 first (terms_of25 k)) (lending_at clock 1 7936 308))
 come (begins c direction subscriber first time payload file request) =
-    outcome_of
-    (begin_call c (parameters_of direction subscriber first (terms_of25 1)) (lending_at time payload file request))
+    outcome_of (begin_call c (parameters_of direction subscriber first terms_of25) (lending_at time payload file request))
 come (hears c time payload file request) = outcome_of (reply_call c [] (lending_at time payload file request))
 come (waits c time payload file request) = outcome_of (no_reply_call c (lending_at time payload file request))
 come (reads c records) = gets (journal_call c (replicate records no_event)).number
@@ -156,10 +145,10 @@ Row = Case OwnerCall Outcome
 
 -- an upload of 1 byte and a download, begun; the same, ended
 abbrev pub sending : ClientRun
-sending = begun (parameters_of Upload 1 7 (terms_of25 1)) 1
+sending = begun (parameters_of Upload 1 7 terms_of25) 1
 
 abbrev pub fetching : ClientRun
-fetching = begun (parameters_of Download 1 7 (terms_of25 1)) 0
+fetching = begun (parameters_of Download 1 7 terms_of25) 0
 
 abbrev pub lodged : ClientRun
 lodged = ended Lodged sending
@@ -171,66 +160,66 @@ fetched = ended Fetched fetching
 unfoldable pub begin_cases : List Row
 begin_cases =
     -- 1 before 5: card 3, "Values over 253,402,300,799,999 ... as bank or client time number 1", no payload
-    (begins not_begun Upload 1 7 253402300800000 0 7936 308 gives gets 1)
+    (begins not_begun Upload 1 7 253402300800000 0 7936 303 gives gets 1)
     -- 5 before 6: no payload, "first exchange number over" 4,294,967,104
-    ∷ (begins not_begun Upload 1 4294967105 clock 0 7936 308 gives gets 5)
+    ∷ (begins not_begun Upload 1 4294967105 clock 0 7936 303 gives gets 5)
     -- 6 before 7: "subscriber not 1 to 8"
-    ∷ (begins not_begun Upload 9 4294967105 clock 1 7936 308 gives gets 6)
+    ∷ (begins not_begun Upload 9 4294967105 clock 1 7936 303 gives gets 6)
     -- 7 before 8: "begin comes to one already begun"
-    ∷ (begins sending Upload 9 7 clock 1 7936 308 gives gets 7)
+    ∷ (begins sending Upload 9 7 clock 1 7936 303 gives gets 7)
     -- 8: begun, or ended
-    ∷ (begins sending Upload 1 7 clock 1 7936 308 gives gets 8)
-    ∷ (begins lodged Upload 1 7 clock 1 7936 308 gives gets 8)
+    ∷ (begins sending Upload 1 7 clock 1 7936 303 gives gets 8)
+    ∷ (begins lodged Upload 1 7 clock 1 7936 303 gives gets 8)
     -- each limit: the time
-    ∷ (begins not_begun Upload 1 7 253402300799999 1 7936 308 gives issues 1 0)
+    ∷ (begins not_begun Upload 1 7 253402300799999 1 7936 303 gives issues 1 0)
     -- "an upload's payload of 0 or over" 7,936 "bytes"; "upload runs ignore the file buffer"
-    ∷ (begins not_begun Upload 1 7 clock 0 7936 308 gives gets 5)
-    ∷ (begins not_begun Upload 1 7 clock 1 0 308 gives issues 1 0)
-    ∷ (begins not_begun Upload 1 7 clock 7936 0 308 gives issues 1 0)
-    ∷ (begins not_begun Upload 1 7 clock 7937 0 308 gives gets 5)
+    ∷ (begins not_begun Upload 1 7 clock 0 7936 303 gives gets 5)
+    ∷ (begins not_begun Upload 1 7 clock 1 0 303 gives issues 1 0)
+    ∷ (begins not_begun Upload 1 7 clock 7936 0 303 gives issues 1 0)
+    ∷ (begins not_begun Upload 1 7 clock 7937 0 303 gives gets 5)
     -- "a download's file buffer not" 7,936; "download runs the payload"
-    ∷ (begins not_begun Download 1 7 clock 0 7935 308 gives gets 5)
-    ∷ (begins not_begun Download 1 7 clock 0 7936 308 gives issues 1 0)
-    ∷ (begins not_begun Download 1 7 clock 7937 7936 308 gives issues 1 0)
-    ∷ (begins not_begun Download 1 7 clock 1 7937 308 gives gets 5)
-    -- card 13, "Client request buffers are at least 308 bytes"
-    ∷ (begins not_begun Upload 1 7 clock 1 7936 307 gives gets 5)
-    ∷ (begins not_begun Download 1 7 clock 0 7936 307 gives gets 5)
-    ∷ (begins not_begun Upload 1 7 clock 1 7936 309 gives issues 1 0)
+    ∷ (begins not_begun Download 1 7 clock 0 7935 303 gives gets 5)
+    ∷ (begins not_begun Download 1 7 clock 0 7936 303 gives issues 1 0)
+    ∷ (begins not_begun Download 1 7 clock 7937 7936 303 gives issues 1 0)
+    ∷ (begins not_begun Download 1 7 clock 1 7937 303 gives gets 5)
+    -- "request buffer under 303"
+    ∷ (begins not_begun Upload 1 7 clock 1 7936 302 gives gets 5)
+    ∷ (begins not_begun Download 1 7 clock 0 7936 302 gives gets 5)
+    ∷ (begins not_begun Upload 1 7 clock 1 7936 304 gives issues 1 0)
     -- the first exchange number, and the subscriber
-    ∷ (begins not_begun Upload 1 4294967104 clock 1 7936 308 gives issues 1 0)
-    ∷ (begins not_begun Upload 1 4294967105 clock 1 7936 308 gives gets 6)
-    ∷ (begins not_begun Upload 0 7 clock 1 7936 308 gives gets 7)
-    ∷ (begins not_begun Upload 8 7 clock 1 7936 308 gives issues 1 0)
-    ∷ (begins not_begun Upload 9 7 clock 1 7936 308 gives gets 7)
+    ∷ (begins not_begun Upload 1 4294967104 clock 1 7936 303 gives issues 1 0)
+    ∷ (begins not_begun Upload 1 4294967105 clock 1 7936 303 gives gets 6)
+    ∷ (begins not_begun Upload 0 7 clock 1 7936 303 gives gets 7)
+    ∷ (begins not_begun Upload 8 7 clock 1 7936 303 gives issues 1 0)
+    ∷ (begins not_begun Upload 9 7 clock 1 7936 303 gives gets 7)
     ∷ []
 
 -- columns: the run, the time; bytes of payload, file buffer, request buffer
 unfoldable pub run_cases : List Row
 run_cases =
     -- 1 before 5
-    (hears sending 253402300800000 2 7936 308 gives gets 1)
-    ∷ (waits sending 253402300800000 2 7936 308 gives gets 1)
-    -- 5 before 8: "payload ... of changed length", "file buffer not" 7,936, a request buffer under 308; "the run has
+    (hears sending 253402300800000 2 7936 303 gives gets 1)
+    ∷ (waits sending 253402300800000 2 7936 303 gives gets 1)
+    -- 5 before 8: "payload ... of changed length", "file buffer not" 7,936, "request buffer under 303"; "the run has
     -- ended", "another call to one not begun"
-    ∷ (hears lodged clock 2 7936 308 gives gets 5)
-    ∷ (waits fetched clock 0 7935 308 gives gets 5)
-    ∷ (hears not_begun clock 0 7936 307 gives gets 5)
-    ∷ (waits not_begun clock 0 7936 307 gives gets 5)
+    ∷ (hears lodged clock 2 7936 303 gives gets 5)
+    ∷ (waits fetched clock 0 7935 303 gives gets 5)
+    ∷ (hears not_begun clock 0 7936 302 gives gets 5)
+    ∷ (waits not_begun clock 0 7936 302 gives gets 5)
     -- 5
-    ∷ (hears sending clock 2 7936 308 gives gets 5)
-    ∷ (waits sending clock 0 7936 308 gives gets 5)
-    ∷ (hears fetching clock 0 7937 308 gives gets 5)
-    ∷ (waits fetching clock 0 7936 307 gives gets 5)
+    ∷ (hears sending clock 2 7936 303 gives gets 5)
+    ∷ (waits sending clock 0 7936 303 gives gets 5)
+    ∷ (hears fetching clock 0 7937 303 gives gets 5)
+    ∷ (waits fetching clock 0 7936 302 gives gets 5)
     -- 8
-    ∷ (hears lodged clock 1 7936 308 gives gets 8)
-    ∷ (waits fetched clock 0 7936 308 gives gets 8)
-    ∷ (hears not_begun clock 0 7936 308 gives gets 8)
-    ∷ (waits not_begun clock 0 7936 308 gives gets 8)
+    ∷ (hears lodged clock 1 7936 303 gives gets 8)
+    ∷ (waits fetched clock 0 7936 303 gives gets 8)
+    ∷ (hears not_begun clock 0 7936 303 gives gets 8)
+    ∷ (waits not_begun clock 0 7936 303 gives gets 8)
     -- none: an unreadable reply is ignored, no reply repeats the request
-    ∷ (hears sending 253402300799999 1 0 308 gives ignores)
-    ∷ (waits sending 253402300799999 1 0 308 gives issues 1 0)
-    ∷ (waits fetching clock 9999 7936 308 gives issues 1 0)
+    ∷ (hears sending 253402300799999 1 0 303 gives ignores)
+    ∷ (waits sending 253402300799999 1 0 303 gives issues 1 0)
+    ∷ (waits fetching clock 9999 7936 303 gives issues 1 0)
     -- the journal: "a lent row of 64 records", and "never gets number 8"
     ∷ (reads lodged 63 gives gets 1)
     ∷ (reads lodged 65 gives gets 1)
@@ -398,7 +387,6 @@ not_lodged_cases =
     ∷ (refused 2 code.InvalidOrderType gives closes Unclear)
     ∷ (refused 2 code.SegmentSizeExceeded gives closes Unclear)
     ∷ (refused 2 code.InvalidXml gives closes Unclear)
-    ∷ (refused 2 code.InvalidHostId gives closes Unclear)
     ∷ (refused 2 code.UnknownTransaction gives closes Unclear)
     ∷ (refused 2 code.MessageReplay gives closes Unclear)
     ∷ (refused 2 code.OrderIdUnknown gives closes Unclear)
@@ -495,32 +483,5 @@ download_cases =
     ∷ (runs Download 0 (brings (download_is 1 1) 1 ∷ replicate 6 silence) gives closes HeldUnconfirmed)
     ∷ []
 
--- ---- card 13: the bank
-
-unfoldable pub bank_cases : List Row
-bank_cases =
-    -- "It refuses a bank outside 1 to 4 with ... 7 at begin": 6 before 7, 7 before 8
-    (begins_for 5 not_begun 4294967105 gives gets 6)
-    ∷ (begins_for 5 sending 7 gives gets 7)
-    ∷ (begins_for 4 sending 7 gives gets 8)
-    ∷ (begins_for 0 not_begun 7 gives gets 7)
-    ∷ (begins_for 1 not_begun 7 gives issues 1 0)
-    ∷ (begins_for 4 not_begun 7 gives issues 1 0)
-    ∷ (begins_for 5 not_begun 7 gives gets 7)
-    -- 1 in two bytes, but not 1
-    ∷ (begins_for 65537 not_begun 7 gives gets 7)
-    -- "named by field 12 (2 bytes, 1 to 4), last in every request": openings, again, transfers, a return, a receipt
-    ∷ (names 3 Upload 257 [] gives numbered 3)
-    ∷ (names 3 Upload 257 (silence ∷ []) gives numbered 3)
-    ∷ (names 3 Upload 257 (comes upload_is ∷ []) gives numbered 3)
-    ∷ (names 3 Upload 257 (comes upload_is ∷ comes (took 8 1) ∷ comes (point 1 9 0) ∷ []) gives numbered 3)
-    ∷ (names 2 Download 0 [] gives numbered 2)
-    ∷ (names 2 Download 0 (brings (download_is 2 0) 256 ∷ []) gives numbered 2)
-    ∷ (names 2 Download 0 (brings (download_is 1 1) 1 ∷ []) gives numbered 2)
-    ∷ (names 2 Download 0 (brings (download_is 1 1) 1 ∷ silence ∷ []) gives numbered 2)
-    ∷ []
-
 unfoldable pub client_cases : List Row
-client_cases =
-    begin_cases
-    ++ (run_cases ++ (upload_cases ++ (edition_cases ++ (not_lodged_cases ++ (download_cases ++ bank_cases)))))
+client_cases = begin_cases ++ (run_cases ++ (upload_cases ++ (edition_cases ++ (not_lodged_cases ++ download_cases))))

@@ -12,9 +12,9 @@ use native.Mathlib.Numerals.{add-one}
 use native.Mathlib.Omega.{arith}
 use lib.ListN.{length}
 use Rattle.frame_table.specs.declared.fields.Fields.{Fields}
-use Rattle.frame_table.specs.Names.{subscriber, bank}
+use Rattle.frame_table.specs.Names.{subscriber}
 use Rattle.octets.proofs.Tests.{never}
-use Rattle.message.specs.Limits.{max_segments, banks}
+use Rattle.message.specs.Limits.{max_segments}
 use Rattle.client_run.specs.declared.run.ClientRun.{ClientRun}
 use Rattle.client_run.specs.declared.run.Decision.{Decision}
 use Rattle.client_run.specs.declared.run.Direction.{Direction}
@@ -28,7 +28,6 @@ use Rattle.client_run.specs.declared.run.Word.{Word}
 use Rattle.client_run.specs.NextRun.{begin_length, begun, ended}
 use Rattle.client_run.specs.Run.{Lent, lengths_of, parameters_of, max_exchange}
 use Rattle.client_run.proofs.Apart.{not-both, not-new-running}
-use Rattle.client_run.proofs.Names.{bank-named}
 use Rattle.client_rules.specs.Rulings.{is_begun}
 use Rattle.client_rules.proofs.Accepted.{Serves, Begins}
 use Rattle.client_rules.proofs.Causes.{Cause}
@@ -67,14 +66,6 @@ own-more next l file issues s e f x (here i) =
     ap (λ (y : Issue). subscriber y.request) i ∙ outstanding-subscriber next l.time l.nonce l.payload
 own-more next l file issues s e f x (there m) = f x m ∙ sym e
 
--- the same of the bank
-named_more : (next : ClientRun) (l : Lent) (file : List ℕ) (issues : List Issue) (k : ℕ) → next.terms.bank ≡ k
-    → ((x : Issue) → In x issues → bank x.request ≡ k)
-    → (x : Issue) → In x (with_request next l file issues) → bank x.request ≡ next.terms.bank
-named_more next l file issues k e f x (here i) =
-    ap (λ (y : Issue). bank y.request) i ∙ bank-named next l.time l.nonce
-named_more next l file issues k e f x (there m) = f x m ∙ sym e
-
 begun-course : (direction : Direction) (subscriber first : ℕ) (terms : RunTerms) (l : Lengths) → Serves direction l
     → Course (begun (parameters_of direction subscriber first terms) (begin_length direction l)) 1
 begun-course Upload subscriber first terms l s = up_start subscriber first terms l.payload s.0 s.1
@@ -88,13 +79,10 @@ bounded-begun c params l file b =
       stage = refl;
       low = b.low;
       high = b.high;
-      bank_low = b.bank_low;
-      bank_high = b.bank_high;
       first = params.first;
       start = b.start;
       numbers = more (outstanding-exchange next l.time l.nonce l.payload) refl none;
       own = own-more next l file [] params.subscriber refl (λ x m. absurd (in-none m));
-      named = named_more next l file [] params.terms.bank refl (λ x m. absurd (in-none m));
       repeats = omega arith;
       course = begun-course params.direction params.subscriber params.first params.terms (lengths_of l) b.buffers;
     }
@@ -104,20 +92,16 @@ module _ (c : ClientRun) (issues : List Issue) (b : Bounded c issues) where
       → (l : Lent) (file : List ℕ) → let next = next_of decision c r d in Bounded next (with_request next l file issues)
   bounded-next decision i r d k l file =
       let next = next_of decision c r d in
-      let n = next-of decision i c r d in
-      let same = ap (λ (t : RunTerms). t.bank) n.terms in record {
+      let n = next-of decision i c r d in record {
         stage = ap is_begun n.stage ∙ b.stage;
         low = omega (arith, n.subscriber, b.low);
         high = omega (arith, n.subscriber, b.high);
-        bank_low = omega (arith, same, b.bank_low);
-        bank_high = omega (arith, same, b.bank_high);
         first = b.first;
         start = b.start;
         numbers =
             more (outstanding-exchange next l.time l.nonce l.payload) refl
             (subst (λ (x : ℕ). Numbered b.first x issues) (sym n.exchange) b.numbers);
         own = own-more next l file issues c.subscriber n.subscriber b.own;
-        named = named_more next l file issues c.terms.bank same b.named;
         repeats = next-repeats decision i c r d k b.repeats;
         course =
             subst (Course next) (add-one (length issues))
@@ -130,13 +114,10 @@ module _ (c : ClientRun) (issues : List Issue) (b : Bounded c issues) where
     stage = refl;
     low = b.low;
     high = b.high;
-    bank_low = b.bank_low;
-    bank_high = b.bank_high;
     first = b.first;
     start = b.start;
     numbers = b.numbers;
     own = b.own;
-    named = b.named;
     repeats = b.repeats;
     course = course-ended c (length issues) w b.course;
   }
@@ -215,20 +196,6 @@ exchange-by (going b) = bounded-exchange b
 
 pub exchange-fits : (es : List Event) → (past_of es).run.exchange ≤ max_exchange
 exchange-fits es = exchange-by (bounds es)
-
--- card 13, "named by field 12 (2 bytes, 1 to 4), last in every request": each names the run's bank, one of 1 to 4
-named_by : {c : ClientRun} {issues : List Issue} → Bounds c issues → (x : Issue) → In x issues
-    → (bank x.request ≡ c.terms.bank) × (1 ≤ bank x.request) × (bank x.request ≤ banks)
-named_by (fresh e z) x m = absurd (in-none (subst (In x) z m))
-named_by (going b) x m =
-    let n = b.named x m in
-    let low = b.bank_low in
-    let high = b.bank_high in
-    (n, omega arith, omega arith)
-
-pub requests-named : (es : List Event) (x : Issue) → In x (past_of es).issues
-    → (bank x.request ≡ (past_of es).run.terms.bank) × (1 ≤ bank x.request) × (bank x.request ≤ banks)
-requests-named es = named_by (bounds es)
 
 -- "Each request takes the next exchange number": an event moves a begun run's by as many as it issues requests
 rises_by : {p : Past} {c : ClientRun} {issues : List Issue} → is_begun p.run.stage ≡ true → AnyChange Any p c issues

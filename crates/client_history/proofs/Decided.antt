@@ -71,7 +71,6 @@ pub record Next (n c : ClientRun) : Type 0 where
   pub stage : n.stage ≡ c.stage
   pub direction : n.direction ≡ c.direction
   pub subscriber : n.subscriber ≡ c.subscriber
-  pub terms : n.terms ≡ c.terms
   pub exchange : n.exchange ≡ c.exchange + 1
 
 goes-next : (k repeats : ℕ) (h c : ClientRun) → Same h c → Next (go_on k repeats h) c
@@ -80,7 +79,6 @@ goes-next k repeats h c s = record {
   stage = s.stage;
   direction = s.direction;
   subscriber = s.subscriber;
-  terms = s.terms;
   exchange = ap (λ (x : ℕ). x + 1) s.exchange;
 }
 
@@ -93,7 +91,7 @@ next-of Opened i c r d =
     goes-next k.segment k.repeats (holding d k) c (held_same d k c (learned-same c.direction r c))
 next-of Advance i c r d = goes-next c.segment c.repeats (holding d c) c (held_same d c c (same c))
 next-of (Return s) i c r d = goes-next s (c.repeats + 1) c c (same c)
-next-of Repeat i c r d = record { stage = refl; direction = refl; subscriber = refl; terms = refl; exchange = refl }
+next-of Repeat i c r d = record { stage = refl; direction = refl; subscriber = refl; exchange = refl }
 next-of (Close w) i c r d = absurd i
 
 -- an upload's payload stays as long as it was

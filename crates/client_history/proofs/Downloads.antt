@@ -94,16 +94,16 @@ use Rattle.client_history.proofs.Requests.{
 -- ---- the requests issued, as the run goes on
 
 -- past a segment, which is no receipt's
-asked-more : {b s n next : ℕ} {t : Bits128} {at : Step} {f : List ℕ} {x : Issue} (y : Step) → at ≡ step.Segment
-    → DownloadIssue b s n t at next f x → DownloadIssue b s n t y (next + 1) f x
+asked-more : {s n next : ℕ} {t : Bits128} {at : Step} {f : List ℕ} {x : Issue} (y : Step) → at ≡ step.Segment
+    → DownloadIssue s n t at next f x → DownloadIssue s n t y (next + 1) f x
 asked-more y e (download_opens number time nonce q d) = download_opens number time nonce q d
 asked-more y e (asks number j a b c g q d) = asks number j a (omega arith) c g q d
 asked-more y e (receipt-issued number z a g q d) = not-segment-receipt e z
 
 -- before the opening's answer the transaction is open to choice
-pub unasked : {b s n m next more : ℕ} {t u : Bits128} {at y : Step} {f g : List ℕ} {x : Issue} → at ≡ step.Opening
+pub unasked : {s n m next more : ℕ} {t u : Bits128} {at y : Step} {f g : List ℕ} {x : Issue} → at ≡ step.Opening
     → next ≡ 0
-    → DownloadIssue b s n t at next f x → DownloadIssue b s m u y more g x
+    → DownloadIssue s n t at next f x → DownloadIssue s m u y more g x
 unasked o h (download_opens number time nonce q d) = download_opens number time nonce q d
 unasked o h (asks number j a b c g q d) = absurd (omega arith)
 unasked o h (receipt-issued number z a g q d) = not-opening-receipt o z
@@ -177,8 +177,8 @@ module _ (Given : Fields → List ℕ → Fields → List ℕ → Type 0) where
     outstanding-issue : (c : ClientRun) (payload file : List ℕ) (time : ℕ) (nonce : List ℕ) (issues : List Issue)
         → c.direction ≡ Download
         → (s : Step) → c.step ≡ s → DownloadAt s c → DownloadStep Given file_at s c file issues
-        → DownloadIssue c.terms.bank c.subscriber c.segments c.transaction c.step c.segment
-        (file_at c.transaction) (issue_of c payload file time nonce)
+        → DownloadIssue c.subscriber c.segments c.transaction c.step c.segment (file_at c.transaction)
+        (issue_of c payload file time nonce)
     outstanding-issue c payload file time nonce issues down step.Opening e p k =
         download_opens c.exchange time (nonce_of nonce c.exchange) (is-download_opening c time nonce payload down e)
         (data-download c time nonce payload down)
@@ -193,8 +193,7 @@ module _ (Given : Fields → List ℕ → Fields → List ℕ → Type 0) where
     goes_on : (c : ClientRun) (payload file : List ℕ) (issues : List Issue) (repeats time : ℕ) (nonce : List ℕ)
         → c.direction ≡ Download → c.stage ≡ stage.Running → c.segments ≤ max_segments
         → ((y : Step) (x : Issue) → In x issues
-        → DownloadIssue c.terms.bank c.subscriber c.segments c.transaction y (c.segment + 1)
-        (file_at c.transaction) x)
+        → DownloadIssue c.subscriber c.segments c.transaction y (c.segment + 1) (file_at c.transaction) x)
         → HeldFile Given (file_at c.transaction) c.transaction c.segments c.segment c.length file issues
         → let next = go_on c.segment repeats c in
         DownloadRun Given file_at next file (issue_of next payload file time nonce ∷ issues)
@@ -231,10 +230,10 @@ module _ (Given : Fields → List ℕ → Fields → List ℕ → Type 0) where
         }
           where
             all : (x : Issue) → In x (new ∷ issues)
-                → DownloadIssue c.terms.bank c.subscriber c.segments c.transaction next.step
-                (c.segment + 1) (file_at c.transaction) x
+                → DownloadIssue c.subscriber c.segments c.transaction next.step (c.segment + 1)
+                (file_at c.transaction) x
             all x (here i) =
-                subst (DownloadIssue _ _ _ _ _ _ _) (sym i)
+                subst (DownloadIssue _ _ _ _ _ _) (sym i)
                 (outstanding-issue next payload file time nonce (new ∷ issues) down s e p g)
             all x (there m) = each next.step x m
 
@@ -287,10 +286,10 @@ module _ (Given : Fields → List ℕ → Fields → List ℕ → Type 0) where
             stepped step.Receipt k = held_in (λ x m. there m) k
 
             each : (x : Issue) → In x (new ∷ issues)
-                → DownloadIssue c.terms.bank c.subscriber c.segments c.transaction c.step c.segment
+                → DownloadIssue c.subscriber c.segments c.transaction c.step c.segment
                 (file_at c.transaction) x
             each x (here e) =
-                subst (DownloadIssue _ _ _ _ _ _ _) (sym e)
+                subst (DownloadIssue _ _ _ _ _ _) (sym e)
                 (outstanding-issue next payload file time nonce (new ∷ issues) u.direction c.step refl
                 (placed c.step place) (stepped c.step u.step))
             each x (there m) = u.each x m
@@ -352,8 +351,7 @@ module _ (Given : Fields → List ℕ → Fields → List ℕ → Type 0) where
             let o = opens r (length d) h in
             let at = subst At e u.step in
             let asked =
-            ap form (is-download_opening c a.time a.nonce payload u.direction e)
-            ∙ form-download_opening _ _ _ _ _ in
+            ap form (is-download_opening c a.time a.nonce payload u.direction e) ∙ form-download_opening _ _ _ _ in
             let none = nothing-held (file_at (transaction r)) file {h = 1 - 1} {size = c.length} refl at.1 in
             goes_on (holding (length d) (learned Download r c)) payload _ issues c.repeats time nonce u.direction
             running o.segment-1.most
@@ -395,8 +393,8 @@ module _ (Given : Fields → List ℕ → Fields → List ℕ → Type 0) where
           (record {
             held = g;
             whole = omega arith;
-            got = got Given {p = p} a (ap form q ∙ form-receipt _ _ _ _ _) (said _ _ _ r k.0);
-            id = ap transaction q ∙ id-receipt _ _ _ _ _;
+            got = got Given {p = p} a (ap form q ∙ form-receipt _ _ _ _) (said _ _ _ r k.0);
+            id = ap transaction q ∙ id-receipt _ _ _ _;
           })
 
       pub rest-run : Closes (rest_word c)
@@ -425,9 +423,8 @@ module _ (Given : Fields → List ℕ → Fields → List ℕ → Type 0) where
         new = issue_of next payload file time nonce
 
         each : (x : Issue) → In x (new ∷ issues)
-            → DownloadIssue terms.bank s next.segments next.transaction step.Opening 0
-            (file_at next.transaction) x
+            → DownloadIssue s next.segments next.transaction step.Opening 0 (file_at next.transaction) x
         each x (here e) =
-            subst (DownloadIssue _ _ _ _ _ _ _) (sym e)
+            subst (DownloadIssue _ _ _ _ _ _) (sym e)
             (outstanding-issue next payload file time nonce (new ∷ issues) refl step.Opening refl tt (refl, refl))
         each x (there m) = absurd (in-none (subst (In x) z m))

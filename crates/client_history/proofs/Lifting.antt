@@ -161,8 +161,7 @@ module _ (Given Later : Fields → List ℕ → Fields → List ℕ → Type 0)
       stage-up (stage.Ended w) k = word-up w k
 
       abbrev Issued : List ℕ → Issue → Type 0
-      Issued g x =
-          DownloadIssue c.terms.bank c.subscriber c.segments c.transaction c.step c.segment g x
+      Issued g x = DownloadIssue c.subscriber c.segments c.transaction c.step c.segment g x
 
       each-up : (s : Step) → c.step ≡ s → DownloadStep Given file_at s c file l → (x : Issue)
           → Issued (file_at c.transaction) x

@@ -33,7 +33,6 @@ use Rattle.client_run.specs.declared.run.Refusal.TheVariants.{
   WrongBuffer,
   ExchangeTooHigh,
   NoSubscriber,
-  NoBank,
   WrongStage,
 }
 use Rattle.client_run.specs.declared.run.Ruling.{Ruling}
@@ -124,7 +123,6 @@ numbered TimeTooHigh h = absurd (omega arith)
 numbered WrongBuffer h = absurd (omega arith)
 numbered ExchangeTooHigh h = absurd (omega arith)
 numbered NoSubscriber h = absurd (omega arith)
-numbered NoBank h = absurd (omega arith)
 numbered WrongStage h = absurd (omega arith)
 
 -- a request issued

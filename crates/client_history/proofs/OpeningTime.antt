@@ -56,14 +56,14 @@ pub record Timed (t : ℕ) (f : Fields) : Type 0 where
   pub time : timestamp f ≡ t
 
 module _ (c : ClientRun) (time : ℕ) (nonce : List ℕ) where
-  upload-timed : (e : Edition) (k b s x : ℕ) (v : Bits128) (n : ℕ) → Timed time (opening_by e k b s x v time n)
+  upload-timed : (e : Edition) (k s x : ℕ) (v : Bits128) (n : ℕ) → Timed time (opening_by e k s x v time n)
   unfolding upload_opening chosen_opening form_of find_form row_fits
-  upload-timed V24 k b s x v n = record { sized = (refl, refl); request = refl; time = refl }
-  upload-timed V25 k b s x v n = record { sized = (refl, refl); request = refl; time = refl }
+  upload-timed V24 k s x v n = record { sized = (refl, refl); request = refl; time = refl }
+  upload-timed V25 k s x v n = record { sized = (refl, refl); request = refl; time = refl }
 
   opening-by : (w : Direction) → c.direction ≡ w → c.step ≡ step.Opening → Timed time (outstanding c time nonce)
   unfolding outstanding download_opening form_of find_form row_fits
-  opening-by Upload d s = rw (d, s) (upload-timed c.terms.edition _ _ _ _ _ _)
+  opening-by Upload d s = rw (d, s) (upload-timed c.terms.edition _ _ _ _ _)
   opening-by Download d s = rw (d, s) (record { sized = (refl, refl); request = refl; time = refl })
 
   opening-timed : c.step ≡ step.Opening → Timed time (outstanding c time nonce)

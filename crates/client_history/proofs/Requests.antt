@@ -37,61 +37,60 @@ use Rattle.client_run.proofs.Names.{subscriber-opening}
 -- ---- the fields of the request forms
 
 -- an upload's opening of either edition; its subscriber and type are those of `Names`
-pub form-opening : (e : Edition) (k b s x : ℕ) (nonce : Bits128) (time n : ℕ)
-    → form (opening_by e k b s x nonce time n) ≡ opening_form e
+pub form-opening : (e : Edition) (k s x : ℕ) (nonce : Bits128) (time n : ℕ)
+    → form (opening_by e k s x nonce time n) ≡ opening_form e
 unfolding upload_opening chosen_opening form_of find_form row_fits
-form-opening V24 k b s x nonce time n = refl
-form-opening V25 k b s x nonce time n = refl
+form-opening V24 k s x nonce time n = refl
+form-opening V25 k s x nonce time n = refl
 
-exchange-opening : (e : Edition) (k b s x : ℕ) (nonce : Bits128) (time n : ℕ)
-    → exchange (opening_by e k b s x nonce time n) ≡ x
+exchange-opening : (e : Edition) (k s x : ℕ) (nonce : Bits128) (time n : ℕ)
+    → exchange (opening_by e k s x nonce time n) ≡ x
 unfolding upload_opening chosen_opening
-exchange-opening V24 k b s x nonce time n = refl
-exchange-opening V25 k b s x nonce time n = refl
+exchange-opening V24 k s x nonce time n = refl
+exchange-opening V25 k s x nonce time n = refl
 
-pub segments-opening : (e : Edition) (k b s x : ℕ) (nonce : Bits128) (time n : ℕ)
-    → segments (opening_by e k b s x nonce time n) ≡ n
+pub segments-opening : (e : Edition) (k s x : ℕ) (nonce : Bits128) (time n : ℕ)
+    → segments (opening_by e k s x nonce time n) ≡ n
 unfolding upload_opening chosen_opening
-segments-opening V24 k b s x nonce time n = refl
-segments-opening V25 k b s x nonce time n = refl
+segments-opening V24 k s x nonce time n = refl
+segments-opening V25 k s x nonce time n = refl
 
 -- the order number that it opens with: the one that it brings, or the one that its answer brings
-pub number-opening : (e : Edition) (terms : RunTerms) (b s x : ℕ) (nonce : Bits128) (time n : ℕ) (r : Fields)
-    → order_opened (opening_by e (chosen_number terms) b s x nonce time n) r ≡ learned_number e terms r
+pub number-opening : (e : Edition) (terms : RunTerms) (s x : ℕ) (nonce : Bits128) (time n : ℕ) (r : Fields)
+    → order_opened (opening_by e (chosen_number terms) s x nonce time n) r ≡ learned_number e terms r
 unfolding upload_opening chosen_opening form_of find_form row_fits
-number-opening V24 terms b s x nonce time n r = refl
-number-opening V25 terms b s x nonce time n r = refl
+number-opening V24 terms s x nonce time n r = refl
+number-opening V25 terms s x nonce time n r = refl
 
-pub form-download_opening : (b s x : ℕ) (nonce : Bits128) (time : ℕ)
-    → form (download_opening b s x nonce time) ≡ forms.DownloadOpening
+pub form-download_opening : (s x : ℕ) (nonce : Bits128) (time : ℕ)
+    → form (download_opening s x nonce time) ≡ forms.DownloadOpening
 unfolding download_opening form_of find_form row_fits
-form-download_opening b s x nonce time = refl
+form-download_opening s x nonce time = refl
 
-pub form-upload_transfer : (b s x : ℕ) (t : Bits128) (j mark : ℕ)
-    → form (upload_transfer b s x t j mark) ≡ forms.UploadTransfer
+pub form-upload_transfer : (s x : ℕ) (t : Bits128) (j mark : ℕ)
+    → form (upload_transfer s x t j mark) ≡ forms.UploadTransfer
 unfolding upload_transfer form_of find_form row_fits
-form-upload_transfer b s x t j mark = refl
+form-upload_transfer s x t j mark = refl
 
-pub form-download_transfer : (b s x : ℕ) (t : Bits128) (j : ℕ)
-    → form (download_transfer b s x t j) ≡ forms.DownloadTransfer
+pub form-download_transfer : (s x : ℕ) (t : Bits128) (j : ℕ) → form (download_transfer s x t j) ≡ forms.DownloadTransfer
 unfolding download_transfer form_of find_form row_fits
-form-download_transfer b s x t j = refl
+form-download_transfer s x t j = refl
 
-pub form-receipt : (b s x : ℕ) (t : Bits128) (n : ℕ) → form (receipt b s x t n) ≡ forms.Receipt
+pub form-receipt : (s x : ℕ) (t : Bits128) (n : ℕ) → form (receipt s x t n) ≡ forms.Receipt
 unfolding receipt form_of find_form row_fits
-form-receipt b s x t n = refl
+form-receipt s x t n = refl
 
-pub segment-upload_transfer : (b s x : ℕ) (t : Bits128) (j mark : ℕ) → segment (upload_transfer b s x t j mark) ≡ j
+pub segment-upload_transfer : (s x : ℕ) (t : Bits128) (j mark : ℕ) → segment (upload_transfer s x t j mark) ≡ j
 unfolding upload_transfer
-segment-upload_transfer b s x t j mark = refl
+segment-upload_transfer s x t j mark = refl
 
-pub id-upload_transfer : (b s x : ℕ) (t : Bits128) (j mark : ℕ) → transaction (upload_transfer b s x t j mark) ≡ t
+pub id-upload_transfer : (s x : ℕ) (t : Bits128) (j mark : ℕ) → transaction (upload_transfer s x t j mark) ≡ t
 unfolding upload_transfer
-id-upload_transfer b s x t j mark = refl
+id-upload_transfer s x t j mark = refl
 
-pub id-receipt : (b s x : ℕ) (t : Bits128) (n : ℕ) → transaction (receipt b s x t n) ≡ t
+pub id-receipt : (s x : ℕ) (t : Bits128) (n : ℕ) → transaction (receipt s x t n) ≡ t
 unfolding receipt
-id-receipt b s x t n = refl
+id-receipt s x t n = refl
 
 -- ---- the outstanding request
 
@@ -111,7 +110,7 @@ module _ (c : ClientRun) (time : ℕ) (nonce payload : List ℕ) where
     is-upload_opening at = by-upload ∙ ap (λ (s : Step). upload_request s c time nonce) at
 
     pub is-upload_transfer : c.step ≡ step.Segment → outstanding c time nonce
-        ≡ upload_transfer c.terms.bank c.subscriber c.exchange c.transaction c.segment
+        ≡ upload_transfer c.subscriber c.exchange c.transaction c.segment
         (last_mark_of c.segment c.segments)
     is-upload_transfer at = by-upload ∙ ap (λ (s : Step). upload_request s c time nonce) at
 
@@ -127,17 +126,15 @@ module _ (c : ClientRun) (time : ℕ) (nonce payload : List ℕ) where
     by-download = ap (λ (w : Direction). request_by w c time nonce) down
 
     pub is-download_opening : c.step ≡ step.Opening
-        → outstanding c time nonce
-        ≡ download_opening c.terms.bank c.subscriber c.exchange (nonce_of nonce c.exchange) time
+        → outstanding c time nonce ≡ download_opening c.subscriber c.exchange (nonce_of nonce c.exchange) time
     is-download_opening at = by-download ∙ ap (λ (s : Step). download_request s c time nonce) at
 
     pub is-download_transfer : c.step ≡ step.Segment
-        → outstanding c time nonce
-        ≡ download_transfer c.terms.bank c.subscriber c.exchange c.transaction c.segment
+        → outstanding c time nonce ≡ download_transfer c.subscriber c.exchange c.transaction c.segment
     is-download_transfer at = by-download ∙ ap (λ (s : Step). download_request s c time nonce) at
 
     pub is-receipt : c.step ≡ step.Receipt
-        → outstanding c time nonce ≡ receipt c.terms.bank c.subscriber c.exchange c.transaction 0
+        → outstanding c time nonce ≡ receipt c.subscriber c.exchange c.transaction 0
     is-receipt at = by-download ∙ ap (λ (s : Step). download_request s c time nonce) at
 
     pub data-download : outstanding_data c payload ≡ []
@@ -148,8 +145,7 @@ module _ (c : ClientRun) (time : ℕ) (nonce payload : List ℕ) where
   exchange-by : (w : Direction) (s : Step) → c.step ≡ s → exchange (request_by w c time nonce) ≡ c.exchange
   unfolding download_opening upload_transfer download_transfer receipt
   exchange-by Upload step.Opening e =
-      ap (λ (s : Step). exchange (upload_request s c time nonce)) e
-      ∙ exchange-opening c.terms.edition _ _ _ _ _ _ _
+      ap (λ (s : Step). exchange (upload_request s c time nonce)) e ∙ exchange-opening c.terms.edition _ _ _ _ _ _
   exchange-by Upload step.Segment e = ap (λ (s : Step). exchange (upload_request s c time nonce)) e
   exchange-by Upload step.Receipt e = ap (λ (s : Step). exchange (upload_request s c time nonce)) e
   exchange-by Download step.Opening e = ap (λ (s : Step). exchange (download_request s c time nonce)) e
@@ -164,7 +160,7 @@ module _ (c : ClientRun) (time : ℕ) (nonce payload : List ℕ) where
   unfolding download_opening upload_transfer download_transfer receipt
   subscriber-by Upload step.Opening e =
       ap (λ (s : Step). subscriber (upload_request s c time nonce)) e
-      ∙ subscriber-opening c.terms.edition _ _ _ _ _ _ _
+      ∙ subscriber-opening c.terms.edition _ _ _ _ _ _
   subscriber-by Upload step.Segment e = ap (λ (s : Step). subscriber (upload_request s c time nonce)) e
   subscriber-by Upload step.Receipt e = ap (λ (s : Step). subscriber (upload_request s c time nonce)) e
   subscriber-by Download step.Opening e = ap (λ (s : Step). subscriber (download_request s c time nonce)) e

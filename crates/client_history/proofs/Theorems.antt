@@ -12,7 +12,7 @@ use Rattle.frame_table.specs.declared.fields.Bits128.{Bits128}
 use Rattle.frame_table.specs.declared.fields.Fields.{Fields}
 use Rattle.frame_table.specs.declared.table.Form.{Form}
 use Rattle.frame_table.specs.Forms as forms
-use Rattle.frame_table.specs.Names.{subscriber, exchange, order_type, segment, form, bank as bank_named}
+use Rattle.frame_table.specs.Names.{subscriber, exchange, order_type, segment, form}
 use Rattle.frame_reader.specs.Reader.{read_reply}
 use Rattle.frame_row.specs.Row.{data_of}
 use Rattle.octets.proofs.Tests.{never}
@@ -138,15 +138,15 @@ new-begun e = ap (λ (c : ClientRun). is_begun c.stage) e
 
 upload-form : {terms : RunTerms} {s n top : ℕ} {t : Bits128} {y : List ℕ} {x : Issue} → UploadIssue terms s n t top y x
     → (form x.request ≡ opening_form terms.edition) ⊎ (form x.request ≡ forms.UploadTransfer)
-upload-form {terms} (upload_opens number time nonce q d) = inl (ap form q ∙ form-opening terms.edition _ _ _ _ _ _ _)
-upload-form (sends number j a c q d) = inr (ap form q ∙ form-upload_transfer _ _ _ _ _ _)
+upload-form {terms} (upload_opens number time nonce q d) = inl (ap form q ∙ form-opening terms.edition _ _ _ _ _ _)
+upload-form (sends number j a c q d) = inr (ap form q ∙ form-upload_transfer _ _ _ _ _)
 
-download-form : {b s n next : ℕ} {t : Bits128} {at : Step} {f : List ℕ} {x : Issue} → DownloadIssue b s n t at next f x
+download-form : {s n next : ℕ} {t : Bits128} {at : Step} {f : List ℕ} {x : Issue} → DownloadIssue s n t at next f x
     → (form x.request ≡ forms.DownloadOpening)
     ⊎ ((form x.request ≡ forms.DownloadTransfer) ⊎ (form x.request ≡ forms.Receipt))
-download-form (download_opens number time nonce q d) = inl (ap form q ∙ form-download_opening _ _ _ _ _)
-download-form (asks number j a b c g q d) = inr (inl (ap form q ∙ form-download_transfer _ _ _ _ _))
-download-form (confirms number z a g q d) = inr (inr (ap form q ∙ form-receipt _ _ _ _ _))
+download-form (download_opens number time nonce q d) = inl (ap form q ∙ form-download_opening _ _ _ _)
+download-form (asks number j a b c g q d) = inr (inl (ap form q ∙ form-download_transfer _ _ _ _))
+download-form (confirms number z a g q d) = inr (inr (ap form q ∙ form-receipt _ _ _ _))
 
 -- an upload's opening of either edition is of no other form
 pub not-opening : (e : Edition) {x : Form} → (x ≡ forms.UploadOpening → ◌≡◌ {A = ℕ} 0 1)
@@ -170,7 +170,7 @@ not-download (inr (inr a)) e g h k = other-form e a k
 
 -- the number of a transfer issued
 sent-number : {p : Past} {x : Issue} (s : SegmentSent p x) → segment x.request ≡ s.j
-sent-number s = ap segment s.request ∙ segment-upload_transfer _ _ _ _ _ _
+sent-number s = ap segment s.request ∙ segment-upload_transfer _ _ _ _ _
 
 module _ (Given : Fields → List ℕ → Fields → List ℕ → Type 0) (file_at : Bits128 → List ℕ)
     (bank : BankReplies Given file_at) where
@@ -233,15 +233,6 @@ module _ (Given : Fields → List ℕ → Fields → List ℕ → Type 0) (file_
         go (upload g u) = g.bounded.own x m
         go (download g u) = g.bounded.own x m
 
-    -- card 13: and name the run's bank
-    pub one-bank : (x : Issue) → In x p.issues → bank_named x.request ≡ p.run.terms.bank
-    one-bank x m = go i
-      where
-        go : Invariant Given file_at p → bank_named x.request ≡ p.run.terms.bank
-        go (not-begun e f) = absurd (in-none (subst (In x) f m))
-        go (upload g u) = g.bounded.named x m
-        go (download g u) = g.bounded.named x m
-
     -- the newest issue is the outstanding request
     pub newest-outstanding : is_begun p.run.stage ≡ true → Newest p
     newest-outstanding b = (begun-of b).newest
@@ -288,7 +279,7 @@ module _ (Given : Fields → List ℕ → Fields → List ℕ → Type 0) (file_
               x
               → SegmentSent p x
           sent k (upload_opens number time nonce q d) =
-              other-form e (ap form q ∙ form-opening p.run.terms.edition _ _ _ _ _ _ _)
+              other-form e (ap form q ∙ form-opening p.run.terms.edition _ _ _ _ _ _)
               (not-opening p.run.terms.edition (λ z. cc) (λ z. cc))
           sent k (sends number j a c q d) = record {
             upload-run = k.direction;
@@ -338,11 +329,10 @@ module _ (Given : Fields → List ℕ → Fields → List ℕ → Type 0) (file_
             o.got.issue
             → order_name p.run ≡ opened_name o.got.issue.request o.got.reply
         named w (upload_opens number time nonce q d) =
-            same-name (sym (ap subscriber q ∙ subscriber-opening p.run.terms.edition _ _ _ _ _ _ _))
-            (ap order_type_of w ∙ sym (ap order_type q ∙ type-opening p.run.terms.edition _ _ _ _ _ _ _))
-            (sym o.number)
+            same-name (sym (ap subscriber q ∙ subscriber-opening p.run.terms.edition _ _ _ _ _ _))
+            (ap order_type_of w ∙ sym (ap order_type q ∙ type-opening p.run.terms.edition _ _ _ _ _ _)) (sym o.number)
         named w (sends number j a c q d) =
-            other-form (ap form q ∙ form-upload_transfer _ _ _ _ _ _) o.got.asked
+            other-form (ap form q ∙ form-upload_transfer _ _ _ _ _) o.got.asked
             (not-opening p.run.terms.edition (λ z. cc) (λ z. cc))
 
         go : Invariant Given file_at p → order_name p.run ≡ opened_name o.got.issue.request o.got.reply
@@ -420,7 +410,7 @@ module _ (Given : Fields → List ℕ → Fields → List ℕ → Type 0) (file_
           let x = issue_of p.run p.payload p.file n.time n.nonce in (
             x,
             subst (In x) (sym n.are) (here refl),
-            ap form (is-receipt p.run n.time n.nonce p.payload w h) ∙ form-receipt _ _ _ _ _,
+            ap form (is-receipt p.run n.time n.nonce p.payload w h) ∙ form-receipt _ _ _ _,
           )
 
     module _ (x : Issue) (m : In x p.issues) where
@@ -429,14 +419,14 @@ module _ (Given : Fields → List ℕ → Fields → List ℕ → Type 0) (file_
       segment-asked e = go i
         where
           asked : p.run.direction ≡ Download
-              → DownloadIssue p.run.terms.bank p.run.subscriber p.run.segments p.run.transaction
-              p.run.step p.run.segment
+              → DownloadIssue p.run.subscriber p.run.segments p.run.transaction p.run.step
+              p.run.segment
               (file_at p.run.transaction) x → SegmentAsked p (file_at p.run.transaction) x
           asked w (download_opens number time nonce q d) =
-              other-form e (ap form q ∙ form-download_opening _ _ _ _ _) (λ z. cc)
+              other-form e (ap form q ∙ form-download_opening _ _ _ _) (λ z. cc)
           asked w (asks number j a b c f q d) =
               record { download-run = w; number = number; j = j; least = a; next = b; most = c; file = f; request = q }
-          asked w (confirms number z a f q d) = other-form e (ap form q ∙ form-receipt _ _ _ _ _) (λ z. cc)
+          asked w (confirms number z a f q d) = other-form e (ap form q ∙ form-receipt _ _ _ _) (λ z. cc)
 
           go : Invariant Given file_at p → SegmentAsked p (file_at p.run.transaction) x
           go (not-begun f g) = absurd (in-none (subst (In x) g m))
@@ -457,12 +447,12 @@ module _ (Given : Fields → List ℕ → Fields → List ℕ → Type 0) (file_
       receipt-issued e = go i
         where
           issued : p.run.direction ≡ Download
-              → DownloadIssue p.run.terms.bank p.run.subscriber p.run.segments p.run.transaction
-              p.run.step p.run.segment
+              → DownloadIssue p.run.subscriber p.run.segments p.run.transaction p.run.step
+              p.run.segment
               (file_at p.run.transaction) x → ReceiptIssued p (file_at p.run.transaction) x
           issued w (download_opens number time nonce q d) =
-              other-form e (ap form q ∙ form-download_opening _ _ _ _ _) (λ z. cc)
-          issued w (asks number j a b c f q d) = other-form e (ap form q ∙ form-download_transfer _ _ _ _ _) (λ z. cc)
+              other-form e (ap form q ∙ form-download_opening _ _ _ _) (λ z. cc)
+          issued w (asks number j a b c f q d) = other-form e (ap form q ∙ form-download_transfer _ _ _ _) (λ z. cc)
           issued w (confirms number z a f q d) =
               record { download-run = w; number = number; at = z; whole = omega arith; file = f; request = q }
 

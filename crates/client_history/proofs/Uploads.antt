@@ -224,14 +224,14 @@ module _ (Given : Fields → List ℕ → Fields → List ℕ → Type 0) where
             got =
                 got Given {p = p} a
                 (ap form (is-upload_opening c a.time a.nonce payload u.direction e)
-                ∙ form-opening c.terms.edition _ _ _ _ _ _ _)
+                ∙ form-opening c.terms.edition _ _ _ _ _ _)
                 (said _ _ _ r h);
             phase-1 = (said _ _ _ r h).phase-is;
             id = refl;
             number =
                 ap (λ (q : Fields). order_opened q r)
                 (is-upload_opening c a.time a.nonce payload u.direction e)
-                ∙ number-opening c.terms.edition c.terms _ _ _ _ _ _ r;
+                ∙ number-opening c.terms.edition c.terms _ _ _ _ _ r;
           };
         })
 
@@ -265,15 +265,15 @@ module _ (Given : Fields → List ℕ → Fields → List ℕ → Type 0) where
 
     module _ (r : Fields) (d : List ℕ) (e : c.step ≡ step.Segment) (a : Answered Given p r d) where
       asked : outstanding c a.time a.nonce
-          ≡ upload_transfer c.terms.bank c.subscriber c.exchange c.transaction c.segment
+          ≡ upload_transfer c.subscriber c.exchange c.transaction c.segment
           (last_mark_of c.segment c.segments)
       asked = is-upload_transfer c a.time a.nonce payload u.direction e
 
       asked-form : form (outstanding c a.time a.nonce) ≡ forms.UploadTransfer
-      asked-form = ap form asked ∙ form-upload_transfer _ _ _ _ _ _
+      asked-form = ap form asked ∙ form-upload_transfer _ _ _ _ _
 
       asked-id : transaction (outstanding c a.time a.nonce) ≡ c.transaction
-      asked-id = ap transaction asked ∙ id-upload_transfer _ _ _ _ _ _
+      asked-id = ap transaction asked ∙ id-upload_transfer _ _ _ _ _
 
       pub lodged-run : lodges c r ≡ true → Closes word.Lodged
       unfolding ended
@@ -282,7 +282,7 @@ module _ (Given : Fields → List ℕ → Fields → List ℕ → Type 0) where
           ended-with word.Lodged
           (record {
             got = got Given {p = p} a asked-form (said _ _ _ r k.0.said);
-            last = ap segment asked ∙ segment-upload_transfer _ _ _ _ _ _ ∙ k.1;
+            last = ap segment asked ∙ segment-upload_transfer _ _ _ _ _ ∙ k.1;
             id = asked-id;
             opened = open-for (λ x m. m) (ready e).opened;
           })

@@ -1,5 +1,5 @@
--- From a begin, each request that a run issues is written, in at most `request_room` bytes: a call that its ruling admits
--- is given no number. Over every list of events whose arguments are of their types, at any times. Assumes nothing.
+-- From a begin, each request that a run issues is written, in at most 303 bytes: a call that its ruling admits is given
+-- no number. Over every list of events whose arguments are of their types, at any times. Assumes nothing.
 use Prim.Native.Nat.{ℕ, ◌^◌, ◌≤◌, ◌<◌}
 use mathlib.Core.Bool.{true}
 use mathlib.Core.List.{List, []}
@@ -111,7 +111,7 @@ part_length p s first last = (simp (length-take, length-drop) (omega arith), sim
 
 -- ---- the request that a run has outstanding
 
--- it is written in at most `request_room` bytes
+-- it is written in at most 303 bytes
 pub record Sent (c : ClientRun) (l : Lent) : Type 0 where
   pub size : ℕ
   pub small : size ≤ request_room
@@ -123,8 +123,8 @@ module _ (c : ClientRun) (issues : List Issue) (b : Bounded c issues) (v : Wide 
   abbrev q : ℕ
   q = length issues
 
-  sender : (c.subscriber < 2 ^ 16) × (c.exchange < 2 ^ 32) × (c.terms.bank < 2 ^ 16)
-  sender = (omega (arith, b.high), omega (arith, bounded-exchange b), omega (arith, b.bank_high))
+  sender : (c.subscriber < 2 ^ 16) × (c.exchange < 2 ^ 32)
+  sender = (omega (arith, b.high), omega (arith, bounded-exchange b))
 
   sent : {f : Fields} {d : List ℕ} {x : Form} → WrittenAs f d x → is_request_form x ≡ true → length d ≤ segment_bytes
       → outstanding c l.time l.nonce ≡ f → outstanding_data c l.payload ≡ d → Sent c l
@@ -141,15 +141,15 @@ module _ (c : ClientRun) (issues : List Issue) (b : Bounded c issues) (v : Wide 
   -- an opening of either edition is written
   opening-written : (e : Edition) → c.segments < 2 ^ 16
       → WrittenAs
-      (opening_by e (chosen_number c.terms) c.terms.bank c.subscriber c.exchange
-      (nonce_of l.nonce c.exchange) l.time c.segments) [] (opening_form e)
+      (opening_by e (chosen_number c.terms) c.subscriber c.exchange (nonce_of l.nonce c.exchange) l.time
+      c.segments) [] (opening_form e)
   opening-written V24 few =
-      chosen-opening-written c.terms.bank c.subscriber c.exchange sender (nonce_of l.nonce c.exchange)
-      l.time (nonce-wide l.nonce c.exchange t.twelve t.nonce) timely c.segments
-      (chosen_number c.terms) few (chosen-small c.terms)
+      chosen-opening-written c.subscriber c.exchange sender (nonce_of l.nonce c.exchange) l.time
+      (nonce-wide l.nonce c.exchange t.twelve t.nonce) timely c.segments (chosen_number c.terms) few
+      (chosen-small c.terms)
   opening-written V25 few =
-      upload-opening-written c.terms.bank c.subscriber c.exchange sender (nonce_of l.nonce c.exchange)
-      l.time (nonce-wide l.nonce c.exchange t.twelve t.nonce) timely c.segments few
+      upload-opening-written c.subscriber c.exchange sender (nonce_of l.nonce c.exchange) l.time
+      (nonce-wide l.nonce c.exchange t.twelve t.nonce) timely c.segments few
 
   up-opening-sent : UploadCourse c q → c.step ≡ step.Opening → Sent c l
   unfolding outstanding outstanding_data
@@ -164,32 +164,30 @@ module _ (c : ClientRun) (issues : List Issue) (b : Bounded c issues) (v : Wide 
       let few = (up-segments c q u).1 in
       let d : List ℕ = segment_of l.payload c.segment in
       let long = part_length l.payload c.segment some (omega (arith, count, u.known, u.within)) in
-      let w = upload-transfer-written c.terms.bank c.subscriber c.exchange sender c.transaction v
-      c.segment (last_mark_of c.segment c.segments) d (omega (arith, u.known, u.within))
+      let w = upload-transfer-written c.subscriber c.exchange sender c.transaction v c.segment
+      (last_mark_of c.segment c.segments) d (omega (arith, u.known, u.within))
       (mark-most c.segment c.segments) (segment-content d forms.UploadTransfer refl long.0 long.1) in
       sent w refl long.1 (rw (u.direction, s)) (rw (u.direction, s))
 
   down-opening-sent : OpeningCourse c q → Sent c l
   unfolding outstanding outstanding_data
   down-opening-sent o =
-      let w = download-opening-written c.terms.bank c.subscriber c.exchange sender
-      (nonce_of l.nonce c.exchange) l.time (nonce-wide l.nonce c.exchange t.twelve t.nonce)
-      timely in
+      let w = download-opening-written c.subscriber c.exchange sender (nonce_of l.nonce c.exchange) l.time
+      (nonce-wide l.nonce c.exchange t.twelve t.nonce) timely in
       sent w refl (omega arith) (rw (o.direction, o.at)) (rw o.direction)
 
   down-segment-sent : DownloadCourse c q → c.step ≡ step.Segment → c.segment ≤ c.segments → Sent c l
   unfolding outstanding outstanding_data
   down-segment-sent e s k =
       let small = e.most in
-      let w = download-transfer-written c.terms.bank c.subscriber c.exchange sender c.transaction v
-      c.segment (omega arith) in
+      let w = download-transfer-written c.subscriber c.exchange sender c.transaction v c.segment
+      (omega arith) in
       sent w refl (omega arith) (rw (e.direction, s)) (rw e.direction)
 
   receipt-sent : DownloadCourse c q → c.step ≡ step.Receipt → Sent c l
   unfolding outstanding outstanding_data
   receipt-sent e s =
-      let w = receipt-written c.terms.bank c.subscriber c.exchange sender c.transaction v 0
-      (omega arith) in
+      let w = receipt-written c.subscriber c.exchange sender c.transaction v 0 (omega arith) in
       sent w refl (omega arith) (rw (e.direction, s)) (rw e.direction)
 
   course-sent : Course c q → Sent c l
@@ -292,8 +290,7 @@ module _ (c : ClientRun) (issues : List Issue) (v : Wide c.transaction) (s : Bou
   call-unrefused (NoReply l) (typed-no-reply t) e =
       run-unrefused (on_no_reply c) no_fields [] l t (omega arith, omega arith) (by-no-reply c no_fields 0) e
 
--- after every list of events: one more that its ruling admits is given no number, and a request has at most
--- `request_room` bytes
+-- after every list of events: one more that its ruling admits is given no number, and a request has at most 303 bytes
 pub unrefused : (es : List Event) → AllTyped es → (e : Event) → Typed e → ruling_of e (past_of es).run ≡ Accept
     → Unrefused (call_of e (past_of es).run).answer
 unrefused es a e t h =

@@ -2,8 +2,8 @@
 use Rattle.std.specs.Prelude.{ℕ, ◌+◌, ◌*◌, ◌≤◌, true, ◌⊎◌, ◌≡◌, length}
 use mathlib.Core.List.{List, [], ◌∷◌, Memᴰ as In}
 use Rattle.octets.specs.Bytes.{Bytes}
-use Rattle.frame_table.specs.Names.{subscriber, exchange, bank}
-use Rattle.message.specs.Limits.{max_segments, max_attempts, file_bytes, subscribers, banks}
+use Rattle.frame_table.specs.Names.{subscriber, exchange}
+use Rattle.message.specs.Limits.{max_segments, max_attempts, file_bytes, subscribers}
 use Rattle.message.specs.Segments.{segments_of}
 use Rattle.client_run.specs.declared.run.Answer.{Answer}
 use Rattle.client_run.specs.declared.run.Answer.TheVariants as answer
@@ -77,14 +77,10 @@ pub record Bounded (c : ClientRun) (issues : List Issue) : Type 0 where
   pub stage : is_begun c.stage ≡ true
   pub low : 1 ≤ c.subscriber
   pub high : c.subscriber ≤ subscribers
-  pub bank_low : 1 ≤ c.terms.bank
-  pub bank_high : c.terms.bank ≤ banks
   pub first : ℕ
   pub start : first ≤ max_first_exchange
   pub numbers : Numbered first (c.exchange + 1) issues
   pub own : (x : Issue) → In x issues → subscriber x.request ≡ c.subscriber
-  -- card 13, "named by field 12 ..., last in every request"
-  pub named : (x : Issue) → In x issues → bank x.request ≡ c.terms.bank
   pub repeats : c.repeats ≤ max_attempts
   pub course : Course c (length issues)
 
@@ -114,7 +110,7 @@ ruling_of (Begin params l) c = begin_ruling c params l.time (lengths_of l)
 ruling_of (Reply frame l) c = run_ruling c l.time (lengths_of l)
 ruling_of (NoReply l) c = run_ruling c l.time (lengths_of l)
 
--- no number, and a request of at most `request_room` bytes
+-- no number, and a request of at most 303 bytes
 abbrev pub Unrefused : Answer → Type 0
 Unrefused (answer.Request n) = n ≤ request_room
 Unrefused answer.Ignored = Unit {0}

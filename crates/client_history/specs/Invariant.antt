@@ -49,25 +49,24 @@ pub data UploadIssue (terms : RunTerms) (s n : ℕ) (t : Bits128) (top : ℕ) (p
       → x.request_data ≡ []
       → UploadIssue terms s n t top payload x
   -- "It cuts the payload at 256 bytes"
-  sends : (number j : ℕ) → 1 ≤ j → j ≤ top → x.request ≡ upload_transfer terms.bank s number t j (last_mark_of j n)
+  sends : (number j : ℕ) → 1 ≤ j → j ≤ top → x.request ≡ upload_transfer s number t j (last_mark_of j n)
       → x.request_data ≡ segment_of payload j
       → UploadIssue terms s n t top payload x
 
--- what a download of the file f, of n segments under the transaction t of this bank, issues up to the step `at` and the
--- segment `next`
-pub data DownloadIssue (bank s n : ℕ) (t : Bits128) (at : Step) (next : ℕ) (f : List ℕ) (x : Issue) : Type 0 where
-  download_opens : (number time : ℕ) (nonce : Bits128) → x.request ≡ download_opening bank s number nonce time
+-- what a download of the file f, of n segments under the transaction t, issues up to the step `at` and the segment `next`
+pub data DownloadIssue (s n : ℕ) (t : Bits128) (at : Step) (next : ℕ) (f : List ℕ) (x : Issue) : Type 0 where
+  download_opens : (number time : ℕ) (nonce : Bits128) → x.request ≡ download_opening s number nonce time
       → x.request_data ≡ []
-      → DownloadIssue bank s n t at next f x
+      → DownloadIssue s n t at next f x
   -- as it asks for segment j it holds segments 1 to j - 1, so no held segment is ever asked for
   asks : (number j : ℕ) → 2 ≤ j → j ≤ next → j ≤ n → x.file ≡ take (segment_bytes * (j - 1)) f
-      → x.request ≡ download_transfer bank s number t j
+      → x.request ≡ download_transfer s number t j
       → x.request_data ≡ []
-      → DownloadIssue bank s n t at next f x
+      → DownloadIssue s n t at next f x
   -- "the run held the whole when, as it issued that receipt, its file was the mailbox's"
-  confirms : (number : ℕ) → at ≡ step.Receipt → next ≡ n + 1 → x.file ≡ f → x.request ≡ receipt bank s number t 0
+  confirms : (number : ℕ) → at ≡ step.Receipt → next ≡ n + 1 → x.file ≡ f → x.request ≡ receipt s number t 0
       → x.request_data ≡ []
-      → DownloadIssue bank s n t at next f x
+      → DownloadIssue s n t at next f x
 
 -- the run's transaction is known: its opening was answered
 abbrev pub is_open : Step → Bool
@@ -96,8 +95,7 @@ pub record SegmentSent (p : Past) (x : Issue) : Type 0 where
   pub least : 1 ≤ j
   pub issued : j ≤ p.run.issued
   pub most : j ≤ p.run.segments
-  pub request : x.request
-      ≡ upload_transfer p.run.terms.bank p.run.subscriber number p.run.transaction j
+  pub request : x.request ≡ upload_transfer p.run.subscriber number p.run.transaction j
       (last_mark_of j p.run.segments)
   pub bytes : x.request_data ≡ segment_of p.payload j
 
@@ -110,7 +108,7 @@ pub record SegmentAsked (p : Past) (f : List ℕ) (x : Issue) : Type 0 where
   pub next : j ≤ p.run.segment
   pub most : j ≤ p.run.segments
   pub file : x.file ≡ take (segment_bytes * (j - 1)) f
-  pub request : x.request ≡ download_transfer p.run.terms.bank p.run.subscriber number p.run.transaction j
+  pub request : x.request ≡ download_transfer p.run.subscriber number p.run.transaction j
 
 -- a receipt issued, over the whole file f
 pub record ReceiptIssued (p : Past) (f : List ℕ) (x : Issue) : Type 0 where
@@ -119,7 +117,7 @@ pub record ReceiptIssued (p : Past) (f : List ℕ) (x : Issue) : Type 0 where
   pub at : p.run.step ≡ step.Receipt
   pub whole : held_count p.run ≡ p.run.segments
   pub file : x.file ≡ f
-  pub request : x.request ≡ receipt p.run.terms.bank p.run.subscriber number p.run.transaction 0
+  pub request : x.request ≡ receipt p.run.subscriber number p.run.transaction 0
 
 -- what names that upload: "subscriber, type and number together"
 abbrev pub opened_name : Fields → Fields → OrderName
@@ -261,7 +259,7 @@ module _ (Given : Fields → List ℕ → Fields → List ℕ → Type 0) where
     pub record DownloadRun (c : ClientRun) (file : List ℕ) (issues : List Issue) : Type 0 where
       pub direction : c.direction ≡ Download
       pub each : (x : Issue) → In x issues
-          → DownloadIssue c.terms.bank c.subscriber c.segments c.transaction c.step c.segment
+          → DownloadIssue c.subscriber c.segments c.transaction c.step c.segment
           (file_at c.transaction) x
       pub step : DownloadStep c.step c file issues
       pub stage : DownloadStage c.stage c file issues

@@ -7,7 +7,7 @@ use lib.Dec.{ltb, eqb}
 use borrow.Author.Tests.{ltb-false, eqb-true, eqb-false, not-false}
 use Rattle.octets.proofs.Tests.{or-neither}
 use Rattle.frame_table.specs.Table.{last_time}
-use Rattle.message.specs.Limits.{file_bytes, subscribers, banks}
+use Rattle.message.specs.Limits.{file_bytes, subscribers}
 use Rattle.client_run.specs.declared.run.ClientRun.{ClientRun}
 use Rattle.client_run.specs.declared.run.Direction.{Direction}
 use Rattle.client_run.specs.declared.run.Direction.TheVariants.{Upload, Download}
@@ -21,9 +21,7 @@ use Rattle.client_rules.specs.Rulings.{
   wrong_buffers,
   changed_length,
   wrong_lengths,
-  outside,
   no_subscriber,
-  no_bank,
   is_begun,
   ruling_at_begin,
   begin_ruling,
@@ -97,36 +95,24 @@ pub record Begins (c : ClientRun) (params : RunParameters) (l : Lent) : Type 0 w
   pub start : params.first ≤ max_first_exchange
   pub low : 1 ≤ params.subscriber
   pub high : params.subscriber ≤ subscribers
-  pub bank_low : 1 ≤ params.terms.bank
-  pub bank_high : params.terms.bank ≤ banks
   pub fresh : is_begun c.stage ≡ false
-
-inside : (most n : ℕ) → outside most n ≡ false → (1 ≤ n) × (n ≤ most)
-unfolding outside
-inside most n h =
-    let a = or-neither (ltb n 1) (ltb most n) h in (ltb-false n 1 a.0, ltb-false most n a.1)
 
 pub begins : (c : ClientRun) (params : RunParameters) (l : Lent)
     → begin_ruling c params l.time (lengths_of l) ≡ Accept → Begins c params l
-unfolding begin_ruling ruling_at_begin
+unfolding begin_ruling ruling_at_begin no_subscriber
 begins c params l h =
     let t = in-time l.time _ h in
     let a = passed (wrong_buffers params.direction (lengths_of l)) _ _ t.1 in
     let b = passed (ltb max_first_exchange params.first) _ _ a.1 in
     let s = params.subscriber in
     let e = passed (no_subscriber s) _ _ b.1 in
-    let k = params.terms.bank in
-    let f = passed (no_bank k) _ _ e.1 in
-    let g = inside subscribers s e.0 in
-    let i = inside banks k f.0 in record {
+    let g = or-neither (ltb s 1) (ltb subscribers s) e.0 in record {
       time = t.0;
       buffers = serves params.direction (lengths_of l) a.0;
       start = ltb-false max_first_exchange params.first b.0;
-      low = g.0;
-      high = g.1;
-      bank_low = i.0;
-      bank_high = i.1;
-      fresh = (passed (is_begun c.stage) _ _ f.1).0;
+      low = ltb-false s 1 g.0;
+      high = ltb-false subscribers s g.1;
+      fresh = (passed (is_begun c.stage) _ _ e.1).0;
     }
 
 pub file-served : (direction : Direction) (l : Lengths) → Serves direction l → direction ≡ Download

@@ -1,7 +1,7 @@
 -- "The client's owner": which call is given which number, in the order 5, 6, 7, 8; since card 3 number 1 comes first.
 use Rattle.std.specs.Prelude.{ℕ, Bool, true, false, not, ◌||◌, List, [], ◌∷◌, ltb, eqb}
 use Rattle.frame_table.specs.Table.{last_time}
-use Rattle.message.specs.Limits.{file_bytes, subscribers, banks}
+use Rattle.message.specs.Limits.{file_bytes, subscribers}
 use Rattle.message.specs.Verdicts.{decide}
 use Rattle.client_run.specs.declared.run.ClientRun.{ClientRun}
 use Rattle.client_run.specs.declared.run.Direction.{Direction}
@@ -12,7 +12,6 @@ use Rattle.client_run.specs.declared.run.Refusal.TheVariants.{
   WrongBuffer,
   ExchangeTooHigh,
   NoSubscriber,
-  NoBank,
   WrongStage,
 }
 use Rattle.client_run.specs.declared.run.Ruling.{Ruling}
@@ -26,8 +25,8 @@ use Rattle.client_run.specs.Run.{request_room, max_first_exchange, max_exchange}
 unfoldable pub time_first : ℕ → Ruling → Ruling
 time_first time others = decide ((ltb last_time time, Refuse TimeTooHigh) ∷ []) others
 
--- 5: an upload's payload of 0 or over 7,936 bytes, a download's file buffer not 7,936 (card 6), a request buffer under
--- 308 (card 13); "(upload runs ignore the file buffer, download runs the payload)"
+-- 5: an upload's payload of 0 or over 7,936 bytes, a download's file buffer not 7,936 (card 6), "request buffer under 303
+-- (upload runs ignore the file buffer, download runs the payload)"
 abbrev pub wrong_buffers : Direction → Lengths → Bool
 wrong_buffers Upload l = eqb l.payload 0 || ltb file_bytes l.payload || ltb l.request request_room
 wrong_buffers Download l = not (eqb l.file file_bytes) || ltb l.request request_room
@@ -41,17 +40,9 @@ changed_length Download c l = false
 unfoldable pub wrong_lengths : ClientRun → Lengths → Bool
 wrong_lengths c l = wrong_buffers c.direction l || changed_length c.direction c l
 
--- a number is not 1 to the most
-unfoldable pub outside : ℕ → ℕ → Bool
-outside most n = ltb n 1 || ltb most n
-
 -- 7: "subscriber not 1 to 8"
-abbrev pub no_subscriber : ℕ → Bool
-no_subscriber subscriber = outside subscribers subscriber
-
--- 7: card 13, "It refuses a bank outside 1 to 4 with ... 7 at begin"
-abbrev pub no_bank : ℕ → Bool
-no_bank bank = outside banks bank
+unfoldable pub no_subscriber : ℕ → Bool
+no_subscriber subscriber = ltb subscriber 1 || ltb subscribers subscriber
 
 -- 8: "begin comes to one already begun"
 abbrev pub is_begun : Stage → Bool
@@ -65,7 +56,6 @@ begin_refusals c params l =
     (wrong_buffers params.direction l, Refuse WrongBuffer)
     ∷ (ltb max_first_exchange params.first, Refuse ExchangeTooHigh)
     ∷ (no_subscriber params.subscriber, Refuse NoSubscriber)
-    ∷ (no_bank params.terms.bank, Refuse NoBank)
     ∷ (is_begun c.stage, Refuse WrongStage)
     ∷ []
 

@@ -1,6 +1,6 @@
 // Which call is given which number.
 ghost use Rattle.std.specs.Prelude.{◌≡◌};
-ghost use Rattle.client_rules.specs.Rulings.{time_first, wrong_buffers, changed_length, wrong_lengths, outside};
+ghost use Rattle.client_rules.specs.Rulings.{time_first, wrong_buffers, changed_length, wrong_lengths, no_subscriber};
 ghost use Rattle.client_rules.specs.Rulings.{is_begun, ruling_at_begin, begin_ruling, ruling_not_begun, ruling_running};
 ghost use Rattle.client_rules.specs.Rulings.{ruling_ended, ruling_at_stage, run_ruling};
 
@@ -9,7 +9,7 @@ use client_run::run::{
     RunParameters, Stage,
 };
 use frame_table::table::LAST_TIME;
-use message::limits::{BANKS, FILE_BYTES, SUBSCRIBERS};
+use message::limits::{FILE_BYTES, SUBSCRIBERS};
 
 // Number 1 before the other numbers: the time is over the last one.
 fn time_first(time: u64, others: Ruling) -> Ruling
@@ -76,14 +76,14 @@ fn wrong_lengths(c: ClientRun, l: Lengths) -> bool
     changed_length(c, l)
 }
 
-// Whether a number is not 1 to the most.
-fn outside(most: u64, n: u64) -> bool
-    ensures { result ≡ outside most n }
+// Whether there is no such subscriber.
+fn no_subscriber(subscriber: u64) -> bool
+    ensures { result ≡ no_subscriber subscriber }
 {
-    if n < 1 {
+    if subscriber < 1 {
         return true;
     }
-    most < n
+    SUBSCRIBERS < subscriber
 }
 
 // Whether the run was begun.
@@ -108,12 +108,8 @@ fn ruling_at_begin(c: ClientRun, params: RunParameters, l: Lengths) -> Ruling
     if MAX_FIRST_EXCHANGE < params.first {
         return Ruling::Refuse(Refusal::ExchangeTooHigh);
     }
-    if outside(SUBSCRIBERS, params.subscriber) {
+    if no_subscriber(params.subscriber) {
         return Ruling::Refuse(Refusal::NoSubscriber);
-    }
-    let terms = params.terms;
-    if outside(BANKS, terms.bank) {
-        return Ruling::Refuse(Refusal::NoBank);
     }
     let stage = c.stage;
     if is_begun(stage) {

@@ -1,19 +1,11 @@
--- What names a run's order: subscriber and type are those that its opening carries, and every request carries its bank.
--- Assumes nothing.
+-- What names a run's order: subscriber and type are those that its opening carries. Assumes nothing.
 use Prim.Native.Nat.{ℕ}
 use mathlib.Core.List.{List}
 use mathlib.Core.Path.{◌≡◌, refl, ◌∙◌, ap}
 use Rattle.frame_table.specs.declared.fields.Bits128.{Bits128}
-use Rattle.frame_table.specs.Names.{subscriber, order_type, bank}
+use Rattle.frame_table.specs.Names.{subscriber, order_type}
 use Rattle.message.specs.Limits.{ful}
-use Rattle.message.specs.Requests.{
-  upload_opening,
-  chosen_opening,
-  download_opening,
-  upload_transfer,
-  download_transfer,
-  receipt,
-}
+use Rattle.message.specs.Requests.{upload_opening, chosen_opening, download_opening}
 use Rattle.client_run.specs.declared.run.ClientRun.{ClientRun}
 use Rattle.client_run.specs.declared.run.Direction.{Direction}
 use Rattle.client_run.specs.declared.run.Direction.TheVariants.{Upload, Download}
@@ -25,51 +17,22 @@ use Rattle.client_run.specs.Requests.{opening_by, upload_request, download_reque
 use Rattle.client_run.specs.Run.{order_type_of, order_name}
 
 -- an upload's opening of either edition
-pub subscriber-opening : (e : Edition) (k b s x : ℕ) (nonce : Bits128) (time n : ℕ)
-    → subscriber (opening_by e k b s x nonce time n) ≡ s
+pub subscriber-opening : (e : Edition) (k s x : ℕ) (nonce : Bits128) (time n : ℕ)
+    → subscriber (opening_by e k s x nonce time n) ≡ s
 unfolding upload_opening chosen_opening
-subscriber-opening V24 k b s x nonce time n = refl
-subscriber-opening V25 k b s x nonce time n = refl
+subscriber-opening V24 k s x nonce time n = refl
+subscriber-opening V25 k s x nonce time n = refl
 
-pub type-opening : (e : Edition) (k b s x : ℕ) (nonce : Bits128) (time n : ℕ)
-    → order_type (opening_by e k b s x nonce time n) ≡ ful
+pub type-opening : (e : Edition) (k s x : ℕ) (nonce : Bits128) (time n : ℕ)
+    → order_type (opening_by e k s x nonce time n) ≡ ful
 unfolding upload_opening chosen_opening
-type-opening V24 k b s x nonce time n = refl
-type-opening V25 k b s x nonce time n = refl
-
-pub bank-opening : (e : Edition) (k b s x : ℕ) (nonce : Bits128) (time n : ℕ)
-    → bank (opening_by e k b s x nonce time n) ≡ b
-unfolding upload_opening chosen_opening
-bank-opening V24 k b s x nonce time n = refl
-bank-opening V25 k b s x nonce time n = refl
-
--- card 13, "named by field 12 ..., last in every request": a run's requests name its bank, at every step
-module _ (c : ClientRun) (time : ℕ) (nonce : List ℕ) where
-  bank-upload : (s : Step) → bank (upload_request s c time nonce) ≡ c.terms.bank
-  unfolding upload_transfer receipt
-  bank-upload step.Opening = bank-opening c.terms.edition _ _ _ _ _ _ _
-  bank-upload step.Segment = refl
-  bank-upload step.Receipt = refl
-
-  bank-download : (s : Step) → bank (download_request s c time nonce) ≡ c.terms.bank
-  unfolding download_opening download_transfer receipt
-  bank-download step.Opening = refl
-  bank-download step.Segment = refl
-  bank-download step.Receipt = refl
-
-  bank-by : (w : Direction) → bank (request_by w c time nonce) ≡ c.terms.bank
-  bank-by Upload = bank-upload c.step
-  bank-by Download = bank-download c.step
-
-  pub bank-named : bank (outstanding c time nonce) ≡ c.terms.bank
-  unfolding outstanding
-  bank-named = bank-by c.direction
+type-opening V24 k s x nonce time n = refl
+type-opening V25 k s x nonce time n = refl
 
 module _ (c : ClientRun) (time : ℕ) (nonce : List ℕ) (at : c.step ≡ step.Opening) where
   subscriber-by : (w : Direction) → subscriber (request_by w c time nonce) ≡ c.subscriber
   unfolding download_opening
-  subscriber-by Upload = ap (λ (s : Step). subscriber (upload_request s c time nonce)) at
-      ∙ subscriber-opening c.terms.edition _ _ _ _ _ _ _
+  subscriber-by Upload = ap (λ (s : Step). subscriber (upload_request s c time nonce)) at ∙ subscriber-opening c.terms.edition _ _ _ _ _ _
   subscriber-by Download = ap (λ (s : Step). subscriber (download_request s c time nonce)) at
 
   pub opening-subscriber : subscriber (outstanding c time nonce) ≡ (order_name c).subscriber
@@ -78,8 +41,7 @@ module _ (c : ClientRun) (time : ℕ) (nonce : List ℕ) (at : c.step ≡ step.O
 
   type-by : (w : Direction) → order_type (request_by w c time nonce) ≡ order_type_of w
   unfolding download_opening
-  type-by Upload = ap (λ (s : Step). order_type (upload_request s c time nonce)) at
-      ∙ type-opening c.terms.edition _ _ _ _ _ _ _
+  type-by Upload = ap (λ (s : Step). order_type (upload_request s c time nonce)) at ∙ type-opening c.terms.edition _ _ _ _ _ _
   type-by Download = ap (λ (s : Step). order_type (download_request s c time nonce)) at
 
   pub opening-type : order_type (outstanding c time nonce) ≡ (order_name c).order_type

@@ -20,33 +20,31 @@ unfoldable pub nonce_of : List ℕ → ℕ → Bits128
 nonce_of lent exchange = record { high = number (take 8 lent); low = number (drop 8 lent) * 2 ^ 32 + exchange % 2 ^ 32 }
 
 -- an upload's opening, by its edition: in 2.4 it brings "its number", again the same where it is repeated
-abbrev pub opening_by : Edition → ℕ → ℕ → ℕ → ℕ → Bits128 → ℕ → ℕ → Fields
-opening_by V24 chosen bank subscriber exchange nonce time segments =
-    chosen_opening bank subscriber exchange nonce time segments chosen
-opening_by V25 chosen bank subscriber exchange nonce time segments =
-    upload_opening bank subscriber exchange nonce time segments
+abbrev pub opening_by : Edition → ℕ → ℕ → ℕ → Bits128 → ℕ → ℕ → Fields
+opening_by V24 chosen subscriber exchange nonce time segments =
+    chosen_opening subscriber exchange nonce time segments chosen
+opening_by V25 chosen subscriber exchange nonce time segments =
+    upload_opening subscriber exchange nonce time segments
 
 -- the opening of a run with these terms
 abbrev pub terms_opening : RunTerms → ℕ → ℕ → Bits128 → ℕ → ℕ → Fields
 terms_opening terms subscriber exchange nonce time segments =
-    opening_by terms.edition (chosen_number terms) terms.bank subscriber exchange nonce time segments
+    opening_by terms.edition (chosen_number terms) subscriber exchange nonce time segments
 
 -- "Each call brings the time, which an opening carries as its timestamp"
 abbrev pub upload_request : Step → ClientRun → ℕ → List ℕ → Fields
 upload_request step.Opening c time nonce =
     terms_opening c.terms c.subscriber c.exchange (nonce_of nonce c.exchange) time c.segments
 upload_request step.Segment c time nonce =
-    upload_transfer c.terms.bank c.subscriber c.exchange c.transaction c.segment
-    (last_mark_of c.segment c.segments)
-upload_request step.Receipt c time nonce = receipt c.terms.bank c.subscriber c.exchange c.transaction 0
+    upload_transfer c.subscriber c.exchange c.transaction c.segment (last_mark_of c.segment c.segments)
+upload_request step.Receipt c time nonce = receipt c.subscriber c.exchange c.transaction 0
 
 -- "a receipt carries code 0"
 abbrev pub download_request : Step → ClientRun → ℕ → List ℕ → Fields
 download_request step.Opening c time nonce =
-    download_opening c.terms.bank c.subscriber c.exchange (nonce_of nonce c.exchange) time
-download_request step.Segment c time nonce =
-    download_transfer c.terms.bank c.subscriber c.exchange c.transaction c.segment
-download_request step.Receipt c time nonce = receipt c.terms.bank c.subscriber c.exchange c.transaction 0
+    download_opening c.subscriber c.exchange (nonce_of nonce c.exchange) time
+download_request step.Segment c time nonce = download_transfer c.subscriber c.exchange c.transaction c.segment
+download_request step.Receipt c time nonce = receipt c.subscriber c.exchange c.transaction 0
 
 abbrev pub request_by : Direction → ClientRun → ℕ → List ℕ → Fields
 request_by Upload c time nonce = upload_request c.step c time nonce

@@ -21,7 +21,6 @@ use Rattle.client_run.specs.declared.run.Refusal.TheVariants.{
   WrongBuffer,
   ExchangeTooHigh,
   NoSubscriber,
-  NoBank,
   WrongStage,
 }
 use Rattle.client_run.specs.declared.run.Answer.{Answer}
@@ -36,14 +35,12 @@ max_first_exchange = 4294967104
 abbrev pub max_exchange : ℕ
 max_exchange = 4294967295
 
--- document 01's numbers for the client's owner; card 3: "as bank or client time number 1"; card 13: "a bank outside 1
--- to 4 with ... 7 at begin"
+-- document 01's numbers for the client's owner; card 3: "as bank or client time number 1"
 abbrev pub refusal_number : Refusal → ℕ
 refusal_number TimeTooHigh = numbers.wrong_length
 refusal_number WrongBuffer = numbers.wrong_buffer
 refusal_number ExchangeTooHigh = numbers.exchange_too_high
 refusal_number NoSubscriber = numbers.no_subscriber
-refusal_number NoBank = numbers.no_subscriber
 refusal_number WrongStage = numbers.wrong_stage
 
 -- document 01's number for an answer, 0 where it is none
@@ -76,11 +73,11 @@ order_name c =
 unfoldable pub chosen_number : RunTerms → ℕ
 chosen_number terms = terms.number % 2 ^ 32
 
--- the terms of a run in which its bank gives the number
-abbrev pub terms_of25 : ℕ → RunTerms
-terms_of25 bank = record { bank = bank; edition = V25; number = 0 }
+-- the terms of a run in which the bank gives the number
+abbrev pub terms_of25 : RunTerms
+terms_of25 = record { edition = V25; number = 0 }
 
--- a run not begun, for no bank
+-- a run not begun
 abbrev pub not_begun : ClientRun
 not_begun = record {
   stage = stage.NotBegun;
@@ -89,7 +86,7 @@ not_begun = record {
   subscriber = 0;
   exchange = 0;
   repeats = 0;
-  terms = terms_of25 0;
+  terms = terms_of25;
   transaction = record { high = 0; low = 0 };
   number = 0;
   length = 0;

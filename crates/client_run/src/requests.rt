@@ -35,7 +35,6 @@ fn opening_of(c: ClientRun, time: u64, nonce: Bits128) -> Fields
     let edition = terms.edition;
     match edition {
         Edition::V24 => chosen_opening(
-            terms.bank,
             c.subscriber,
             c.exchange,
             nonce,
@@ -43,14 +42,7 @@ fn opening_of(c: ClientRun, time: u64, nonce: Bits128) -> Fields
             c.segments,
             chosen_number(terms),
         ),
-        Edition::V25 => upload_opening(
-            terms.bank,
-            c.subscriber,
-            c.exchange,
-            nonce,
-            time,
-            c.segments,
-        ),
+        Edition::V25 => upload_opening(c.subscriber, c.exchange, nonce, time, c.segments),
     }
 }
 
@@ -59,19 +51,17 @@ fn upload_request(c: ClientRun, time: u64, nonce: [u8; NONCE_BYTES]) -> Fields
     ensures { result ≡ upload_request c.step c time nonce }
 {
     let step = c.step;
-    let terms = c.terms;
     let transaction = c.transaction;
     match step {
         Step::Opening => opening_of(c, time, nonce_of(nonce, c.exchange)),
         Step::Segment => upload_transfer(
-            terms.bank,
             c.subscriber,
             c.exchange,
             transaction,
             c.segment,
             last_mark_of(c.segment, c.segments),
         ),
-        Step::Receipt => receipt(terms.bank, c.subscriber, c.exchange, transaction, 0),
+        Step::Receipt => receipt(c.subscriber, c.exchange, transaction, 0),
     }
 }
 
@@ -80,24 +70,16 @@ fn download_request(c: ClientRun, time: u64, nonce: [u8; NONCE_BYTES]) -> Fields
     ensures { result ≡ download_request c.step c time nonce }
 {
     let step = c.step;
-    let terms = c.terms;
     let transaction = c.transaction;
     match step {
         Step::Opening => download_opening(
-            terms.bank,
             c.subscriber,
             c.exchange,
             nonce_of(nonce, c.exchange),
             time,
         ),
-        Step::Segment => download_transfer(
-            terms.bank,
-            c.subscriber,
-            c.exchange,
-            transaction,
-            c.segment,
-        ),
-        Step::Receipt => receipt(terms.bank, c.subscriber, c.exchange, transaction, 0),
+        Step::Segment => download_transfer(c.subscriber, c.exchange, transaction, c.segment),
+        Step::Receipt => receipt(c.subscriber, c.exchange, transaction, 0),
     }
 }
 

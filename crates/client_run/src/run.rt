@@ -14,7 +14,7 @@ use number_table::table::{
 pub const NONCE_BYTES: usize = 12;
 
 // The bytes of the largest request, which a request buffer has at least.
-pub const REQUEST_ROOM: usize = 308;
+pub const REQUEST_ROOM: usize = 303;
 
 // The highest first exchange number of a run.
 pub const MAX_FIRST_EXCHANGE: u64 = 4_294_967_104;
@@ -40,11 +40,10 @@ pub enum Word {
     NotFetched,
 }
 
-// What begin tells a run: card 13's bank, from 1 on, and an upload run card 11's "its edition, and in 2.4 its number",
-// any four bytes as field 0E has them. Edition 2.5 leaves the number out, and a download run both.
+// What begin tells an upload run: card 11's "its edition, and in 2.4 its number", any four bytes as field 0E has them.
+// Edition 2.5 leaves the number out, and a download run both.
 #[derive(Drop)]
 pub struct RunTerms {
-    pub bank: u64,
     pub edition: Edition,
     pub number: u64,
 }
@@ -94,15 +93,13 @@ pub struct ClientRun {
     pub issued: u64,
 }
 
-// Why a call is given a number: the time, a buffer, the first exchange number, the subscriber, the bank, or the run's
-// stage.
+// Why a call is given a number: the time, a buffer, the first exchange number, the subscriber, or the run's stage.
 #[derive(Drop)]
 pub enum Refusal {
     TimeTooHigh,
     WrongBuffer,
     ExchangeTooHigh,
     NoSubscriber,
-    NoBank,
     WrongStage,
 }
 
@@ -115,7 +112,6 @@ pub fn refusal_number(refusal: Refusal) -> u64
         Refusal::WrongBuffer => WRONG_BUFFER,
         Refusal::ExchangeTooHigh => EXCHANGE_TOO_HIGH,
         Refusal::NoSubscriber => NO_SUBSCRIBER,
-        Refusal::NoBank => NO_SUBSCRIBER,
         Refusal::WrongStage => WRONG_STAGE,
     }
 }
@@ -169,7 +165,6 @@ impl ClientRun {
             exchange: 0,
             repeats: 0,
             terms: RunTerms {
-                bank: 0,
                 edition: Edition::V25,
                 number: 0,
             },

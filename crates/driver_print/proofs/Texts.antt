@@ -269,10 +269,9 @@ module _ {old new : List ℕ} {at r : ℕ} (runs : List Run) (i : ℕ) (d : Run)
       Put old at (file_row (i + 1) (file_of files i (held_by e.direction e))) new r
   file-of files p = rw (at-any (new_run []) runs i d h) at p
 
-pub row-most : (t : Table) (u : UnitState) (row : List Event) (m : Lent) (files : List ℕ) (i : ℕ)
-    → length (row_at t u row m files i) ≤ room_of t
-row-most Book u row m files i = order-most (place_at (bank_of m.rows) i) _ (file-fits _ _ _)
-row-most Mailboxes u row m files i = file-most (i + 1) _ (file-fits _ _ _)
-row-most Words u row m files i = word-most (i + 1) (run_at u.runs i).client.run
-row-most Files u row m files i = file-most (i + 1) _ (file-fits _ _ _)
-row-most Journal u row m files i = event-most (get_or row i no_event)
+pub row-most : (t : Table) (u : UnitState) (m : Lent) (files : List ℕ) (i : ℕ) → length (row_at t u m files i) ≤ room_of t
+row-most Book u m files i = order-most (place_at (bank_of m.rows) i) _ (file-fits _ _ _)
+row-most Mailboxes u m files i = file-most (i + 1) _ (file-fits _ _ _)
+row-most Words u m files i = word-most (i + 1) (run_at u.runs i).client.run
+row-most Files u m files i = file-most (i + 1) _ (file-fits _ _ _)
+row-most Journal u m files i = event-most (get_or u.journal i no_event)

@@ -1,6 +1,4 @@
--- "At the end of the input": a bank's book and its mailboxes, the runs' closing words, the runs' files and a bank's
--- journal. "From card 13 on the tables of a bank are printed four times, in bank order, each with its header, empty ones
--- too".
+-- "At the end of the input": the book, the mailboxes, the runs' closing words, the runs' files and the journal.
 use Rattle.std.specs.Prelude.{ℕ, ◌+◌, ◌*◌, Bool, true, false, cond, List, [], ◌∷◌, ◌++◌, eqb, length, get_or}
 use Rattle.octets.specs.Bytes.{bytes_of}
 use Rattle.message.specs.Limits.{file_bytes}
@@ -100,18 +98,17 @@ event_row e =
     []
 
 -- row i of a table: "The book in place order; the mailboxes that hold a file; the runs that have begun ...; and each
--- run's file", and the journal, oldest first; a bank's tables are those of the bank with this row, to which the memory m
--- is lent
-abbrev pub row_at : Table → UnitState → List Event → Lent → List ℕ → ℕ → List ℕ
-row_at Book u row m files i =
+-- run's file", and the journal, oldest first
+abbrev pub row_at : Table → UnitState → Lent → List ℕ → ℕ → List ℕ
+row_at Book u m files i =
     let p = place_at (bank_of m.rows) i in
     order_row p (file_of m.orders i p.length)
-row_at Mailboxes u row m files i = file_row (i + 1) (file_of m.mailboxes i (get_or (bank_of m.rows).files i 0))
-row_at Words u row m files i = word_row (i + 1) (run_at u.runs i).client.run
-row_at Files u row m files i =
+row_at Mailboxes u m files i = file_row (i + 1) (file_of m.mailboxes i (get_or (bank_of m.rows).files i 0))
+row_at Words u m files i = word_row (i + 1) (run_at u.runs i).client.run
+row_at Files u m files i =
     let c = (run_at u.runs i).client.run in
     file_row (i + 1) (file_of files i (held_by c.direction c))
-row_at Journal u row m files i = event_row (get_or row i no_event)
+row_at Journal u m files i = event_row (get_or u.journal i no_event)
 
 -- how many rows a table has at most: one for each place, mailbox, run or record
 abbrev pub row_count : Table → ℕ
@@ -121,9 +118,9 @@ row_count Words = run_count
 row_count Files = run_count
 row_count Journal = record_count
 
--- a table of the unit, the row and the memory of one of its banks, and the runs' file buffers
-unfoldable pub table_of : Table → UnitState → List Event → Lent → List ℕ → List ℕ
-table_of t u row m files = header_text t ++ rows_to (row_at t u row m files) (row_count t)
+-- a table of the unit, the memory lent to its bank, and the runs' file buffers
+unfoldable pub table_of : Table → UnitState → Lent → List ℕ → List ℕ
+table_of t u m files = header_text t ++ rows_to (row_at t u m files) (row_count t)
 
 -- the most bytes that a header takes, the book's, the column "content" with the longest file, a row with it, the columns
 -- "transaction" and "kind", and a row of the journal

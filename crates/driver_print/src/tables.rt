@@ -1,5 +1,5 @@
-// The closing tables: a bank's book and its mailboxes, the runs' closing words, the runs' files and a bank's journal,
-// written into a lent output.
+// The closing tables: the book, the mailboxes, the runs' closing words, the runs' files and the journal, written into a
+// lent output.
 ghost use Rattle.std.specs.Prelude.{◌≡◌, ◌+◌, ◌*◌, ◌≤◌, ◌<◌, length};
 ghost use Rattle.message.specs.Limits.{file_bytes};
 ghost use Rattle.journal.specs.Records.{name_of};
@@ -207,13 +207,12 @@ fn put_event(output: &mut [u8], at: usize, e: Event) -> usize
     put_kind(output, s, kind)
 }
 
-// Writes row i of a table; of a bank's table that of the bank whose parts are lent.
+// Writes row i of a table.
 fn put_row(
     output: &mut [u8],
     at: usize,
     t: Table,
     u: UnitState,
-    journal: [Event; RECORD_COUNT],
     rows: &[u64],
     orders: &[u8],
     mailboxes: &[u8],
@@ -222,7 +221,7 @@ fn put_row(
 ) -> usize
     requires { (at + room_of t ≤ length output.old) × (i < row_count t) × (length rows.now ≡ state_size) }
     ensures { Put output.old at
-        (row_at t u journal (lent rows.now orders.now mailboxes.now) files.now i)
+        (row_at t u (lent rows.now orders.now mailboxes.now) files.now i)
         output.new result }
 {
     let n = i as u64 + 1;
@@ -240,7 +239,7 @@ fn put_row(
             let run = u.runs[i];
             put_file(output, at, n, file_of(files, i, held_by(run.client.run)))
         }
-        Table::Journal => put_event(output, at, journal[i]),
+        Table::Journal => put_event(output, at, u.journal[i]),
     }
 }
 
@@ -263,7 +262,6 @@ fn put_rows(
     at: usize,
     t: Table,
     u: UnitState,
-    journal: [Event; RECORD_COUNT],
     rows: &[u64],
     orders: &[u8],
     mailboxes: &[u8],
@@ -272,7 +270,7 @@ fn put_rows(
     requires { (at + row_count t * room_of t ≤ length output.old) × (length rows.now ≡ state_size) }
     ensures { Put output.old at
         (rows_to
-        (row_at t u journal (lent rows.now orders.now mailboxes.now) files.now)
+        (row_at t u (lent rows.now orders.now mailboxes.now) files.now)
         (row_count t))
         output.new result }
 {
@@ -280,19 +278,16 @@ fn put_rows(
     let mut end = at;
     let mut i = 0;
     while i < n {
-        end = put_row(
-            output, end, t, u, journal, rows, orders, mailboxes, files, i,
-        );
+        end = put_row(output, end, t, u, rows, orders, mailboxes, files, i);
         i += 1;
     }
     end
 }
 
-// A closing table at the front of the output, and its length; a bank's table is that of the bank whose parts are lent.
+// A closing table at the front of the output, and its length.
 pub fn table_of(
     t: Table,
     u: UnitState,
-    journal: [Event; RECORD_COUNT],
     rows: &[u64],
     orders: &[u8],
     mailboxes: &[u8],
@@ -302,16 +297,16 @@ pub fn table_of(
     requires { length rows.now ≡ state_size }
     ensures { (output.new
         ≡ printed table_room
-        (table_of t u journal (lent rows.now orders.now mailboxes.now) files.now)
+        (table_of t u (lent rows.now orders.now mailboxes.now) files.now)
         output.old)
         × (result
         ≡ printed_count table_room
-        (table_of t u journal (lent rows.now orders.now mailboxes.now) files.now)
+        (table_of t u (lent rows.now orders.now mailboxes.now) files.now)
         output.old) }
 {
     if output.len() < TABLE_ROOM {
         return 0;
     }
     let at = put_header(output, t);
-    put_rows(output, at, t, u, journal, rows, orders, mailboxes, files)
+    put_rows(output, at, t, u, rows, orders, mailboxes, files)
 }

@@ -1,7 +1,8 @@
 -- A session: the calls of the records read, made one after the other on a fresh unit.
 use Rattle.std.specs.Prelude.{ℕ, ◌≡◌, Bool, true, ◌&&◌, List, [], ◌∷◌, replicate}
-use Rattle.journal.specs.Row.{empty_row}
-use Rattle.banks.specs.Banks.{Journals, lent_banks, unit_rows, unit_store}
+use Rattle.bank_state.specs.Limits.{store_bytes}
+use Rattle.bank_steps.specs.Lent.{lent}
+use Rattle.bank_session.specs.Session.{session_size}
 use Rattle.unit_state.specs.declared.state.UnitState.{UnitState}
 use Rattle.unit_state.specs.Records.{room_bytes, call_of, is_call}
 use Rattle.unit_state.specs.State.{fresh, rooms_bytes, buffer_bytes}
@@ -28,23 +29,18 @@ pub record Calls (before after : State) : Type 0 where
 abbrev zeros : ℕ → List ℕ
 zeros n = replicate n 0
 
--- no event entered in any bank
-abbrev pub empty_journals : Journals
-empty_journals = record { first = empty_row; second = empty_row; third = empty_row; fourth = empty_row }
-
--- "four banks", each fresh (8 places, 8 mailboxes), "and 16 client runs", and "32 lines, numbered 1 to 32, none made": no
--- run begun, and all that is lent to them zeroed
+-- "one fresh bank (8 places, 8 mailboxes) and 16 client runs", and "32 lines, numbered 1 to 32, none made": no run begun,
+-- and all that is lent to them zeroed
 unfoldable pub start : State
 start =
-    let banks = lent_banks (zeros unit_rows) empty_journals (zeros unit_store) (zeros unit_store) in
+    let bank = lent (zeros session_size) (zeros store_bytes) (zeros store_bytes) in
     state_of fresh
-    (memory banks (zeros rooms_bytes) (zeros rooms_bytes) (zeros buffer_bytes) (zeros room_bytes)
+    (memory bank (zeros rooms_bytes) (zeros rooms_bytes) (zeros buffer_bytes) (zeros room_bytes)
     (lines_of (zeros lines_size) (zeros stores_bytes)))
 
--- the runs, the journals and the sessions' numbers that a session leaves
-pub record Session (u : UnitState) (journals : Journals) (rows : List ℕ) : Type 0 where
+-- the runs, the journal and the session's numbers that a session leaves
+pub record Session (u : UnitState) (rows : List ℕ) : Type 0 where
   pub last : State
   pub calls : Calls start last
   pub unit : u ≡ last.unit
-  pub rows-entered : journals ≡ last.memory.banks.journals
-  pub numbers : rows ≡ last.memory.banks.rows
+  pub bank : rows ≡ last.memory.bank.rows

@@ -1,33 +1,37 @@
 // The driver's session: each record from standard input, its line to standard output; at the end the closing tables.
-ghost use Rattle.banks.specs.Banks.{lent_banks};
-ghost use Rattle.unit_rows.specs.Rows.{journals_from, unit_from};
+ghost use Rattle.std.specs.Prelude.{◌≡◌, length};
+ghost use Rattle.bank_steps.specs.Lent.{lent};
+ghost use Rattle.bank_session.specs.Session.{session_size};
+ghost use Rattle.unit_rows.specs.Rows.{unit_from};
 ghost use Rattle.unit_rows.specs.Lines.{lines_of};
 ghost use Rattle.unit.specs.State.{memory, state_of};
 ghost use Rattle.driver_session.specs.Session.{Calls, Session};
 
-use banks::layout::{UNIT_ROWS, UNIT_STORE};
-use driver_close::tables::close;
+use bank_rows::layout::STATE_SIZE;
+use bank_session::layout::SESSION_SIZE;
+use bank_session::report::{CountAnswer, count_openings};
+use bank_state::limits::STORE_BYTES;
 use driver_print::call_line::line;
-use driver_print::tables::TABLE_ROOM;
+use driver_print::counts_table::counts_table;
+use driver_print::tables::{TABLE_ROOM, Table, table_of};
 use libc::{STDIN_FILENO, STDOUT_FILENO};
 use octets::bytes::front;
 use unit::call::call;
-use unit_rows::journals::JOURNALS_SIZE;
+use unit_rows::events::ROW_SIZE;
 use unit_rows::lines::{LINES_SIZE, STORES_BYTES};
 use unit_rows::runs::{NONCES_SIZE, RUNS_SIZE};
 use unit_rows::whole::unit_of;
-use unit_state::answer::{Answer, is_answer};
+use unit_state::answer::is_answer;
 use unit_state::record::{
     RECORD_BYTES, ROOM_BYTES, call_of, head_of, is_call, kind_of, lent_length, size_of,
 };
 use unit_state::state::{BUFFER_BYTES, ROOMS_BYTES, UnitState};
 
-// What a session leaves: the client runs, and the numbers of the four banks' journals and sessions.
+// What a session leaves: the client runs with the journal, and the session's numbers.
 #[derive(Drop)]
 pub struct SessionEnd {
     pub unit: UnitState,
-    pub journals: [u64; JOURNALS_SIZE],
-    pub rows: [u64; UNIT_ROWS],
+    pub rows: [u64; SESSION_SIZE],
 }
 
 // Reads the bytes from a place up to an end, and says whether all came.
@@ -67,48 +71,32 @@ fn first(input: &[u8]) -> u8 {
     input[0]
 }
 
-// Writes the line of an answer, and says whether the input may go on: a message for a line not made has no answer.
-fn tell(
-    n: u64,
-    answer: Answer,
-    buffer: &[u8],
-    room: &[u8],
-    input: &[u8],
-    output: &mut [u8],
-) -> bool {
-    if !is_answer(answer) {
-        return false;
-    }
-    let k = line(n, answer, buffer, front(room, lent_length(input)), output);
-    io::write_all(STDOUT_FILENO, front(output, k))
-}
-
-// One record: its call, the call's line, and whether the input may go on.
+// One record: its call, the call's line, and whether the input may go on. A message for a line not made ends it, too.
 fn step(
     runs: &mut [u64; RUNS_SIZE],
     nonces: &mut [u8; NONCES_SIZE],
-    journals: &mut [u64; JOURNALS_SIZE],
+    row: &mut [u64; ROW_SIZE],
     n: u64,
-    input: &mut [u8; RECORD_BYTES],
-    output: &mut [u8; TABLE_ROOM],
-    rows: &mut [u64; UNIT_ROWS],
-    orders: &mut [u8; UNIT_STORE],
-    mailboxes: &mut [u8; UNIT_STORE],
-    payloads: &mut [u8; ROOMS_BYTES],
-    files: &mut [u8; ROOMS_BYTES],
-    buffer: &mut [u8; BUFFER_BYTES],
-    room: &mut [u8; ROOM_BYTES],
-    lines: &mut [u64; LINES_SIZE],
-    stores: &mut [u8; STORES_BYTES],
+    input: &mut [u8],
+    output: &mut [u8],
+    rows: &mut [u64],
+    orders: &mut [u8],
+    mailboxes: &mut [u8],
+    payloads: &mut [u8],
+    files: &mut [u8],
+    buffer: &mut [u8],
+    room: &mut [u8],
+    lines: &mut [u64],
+    stores: &mut [u8],
 ) -> bool
     ensures { Calls
-        (state_of (unit_from runs.old nonces.old)
-        (memory (lent_banks rows.old (journals_from journals.old) orders.old
-        mailboxes.old) payloads.old files.old buffer.old room.old
+        (state_of (unit_from runs.old nonces.old row.old)
+        (memory (lent rows.old orders.old mailboxes.old)
+        payloads.old files.old buffer.old room.old
         (lines_of lines.old stores.old)))
-        (state_of (unit_from runs.new nonces.new)
-        (memory (lent_banks rows.new (journals_from journals.new) orders.new
-        mailboxes.new) payloads.new files.new buffer.new room.new
+        (state_of (unit_from runs.new nonces.new row.new)
+        (memory (lent rows.new orders.new mailboxes.new)
+        payloads.new files.new buffer.new room.new
         (lines_of lines.new stores.new))) }
 {
     let size = read_record(input);
@@ -118,7 +106,7 @@ fn step(
     let answer = call(
         runs,
         nonces,
-        journals,
+        row,
         front(input, size),
         rows,
         orders,
@@ -130,7 +118,11 @@ fn step(
         lines,
         stores,
     );
-    tell(n, answer, buffer, room, input, output)
+    if !is_answer(answer) {
+        return false;
+    }
+    let k = line(n, answer, buffer, front(room, lent_length(input)), output);
+    io::write_all(STDOUT_FILENO, front(output, k))
 }
 
 // The calls of all records. Nothing says that an input ends, so the calls are counted up to a number that no run
@@ -138,27 +130,27 @@ fn step(
 fn read_all(
     runs: &mut [u64; RUNS_SIZE],
     nonces: &mut [u8; NONCES_SIZE],
-    journals: &mut [u64; JOURNALS_SIZE],
-    input: &mut [u8; RECORD_BYTES],
-    output: &mut [u8; TABLE_ROOM],
-    rows: &mut [u64; UNIT_ROWS],
-    orders: &mut [u8; UNIT_STORE],
-    mailboxes: &mut [u8; UNIT_STORE],
-    payloads: &mut [u8; ROOMS_BYTES],
-    files: &mut [u8; ROOMS_BYTES],
-    buffer: &mut [u8; BUFFER_BYTES],
-    room: &mut [u8; ROOM_BYTES],
-    lines: &mut [u64; LINES_SIZE],
-    stores: &mut [u8; STORES_BYTES],
+    row: &mut [u64; ROW_SIZE],
+    input: &mut [u8],
+    output: &mut [u8],
+    rows: &mut [u64],
+    orders: &mut [u8],
+    mailboxes: &mut [u8],
+    payloads: &mut [u8],
+    files: &mut [u8],
+    buffer: &mut [u8],
+    room: &mut [u8],
+    lines: &mut [u64],
+    stores: &mut [u8],
 )
     ensures { Calls
-        (state_of (unit_from runs.old nonces.old)
-        (memory (lent_banks rows.old (journals_from journals.old) orders.old
-        mailboxes.old) payloads.old files.old buffer.old room.old
+        (state_of (unit_from runs.old nonces.old row.old)
+        (memory (lent rows.old orders.old mailboxes.old)
+        payloads.old files.old buffer.old room.old
         (lines_of lines.old stores.old)))
-        (state_of (unit_from runs.new nonces.new)
-        (memory (lent_banks rows.new (journals_from journals.new) orders.new
-        mailboxes.new) payloads.new files.new buffer.new room.new
+        (state_of (unit_from runs.new nonces.new row.new)
+        (memory (lent rows.new orders.new mailboxes.new)
+        payloads.new files.new buffer.new room.new
         (lines_of lines.new stores.new))) }
 {
     let mut more = true;
@@ -166,21 +158,71 @@ fn read_all(
     while calls < u64::MAX && more {
         calls += 1;
         more = step(
-            runs, nonces, journals, calls, input, output, rows, orders, mailboxes, payloads, files,
+            runs, nonces, row, calls, input, output, rows, orders, mailboxes, payloads, files,
             buffer, room, lines, stores,
         );
     }
 }
 
+// Writes a closing table.
+fn close_table(
+    t: Table,
+    u: UnitState,
+    output: &mut [u8],
+    rows: &[u64],
+    orders: &[u8],
+    mailboxes: &[u8],
+    files: &[u8],
+)
+    requires { length rows.now ≡ session_size }
+{
+    let bank = &rows[..STATE_SIZE];
+    let n = table_of(t, u, bank, orders, mailboxes, files, output);
+    io::write_all(STDOUT_FILENO, front(output, n));
+}
+
+// The table of the counts into the output, and its length; numbers that get number 1 have none.
+fn counts_into(answer: CountAnswer, output: &mut [u8]) -> usize {
+    match answer {
+        CountAnswer::Counted(c) => counts_table(c, output),
+        CountAnswer::WrongLength => 0,
+    }
+}
+
+// Writes the counts that the session's call gives.
+fn close_counts(output: &mut [u8], rows: &[u64]) {
+    let n = counts_into(count_openings(rows), output);
+    io::write_all(STDOUT_FILENO, front(output, n));
+}
+
+// Writes the closing tables.
+fn close(
+    u: UnitState,
+    output: &mut [u8],
+    rows: &[u64],
+    orders: &[u8],
+    mailboxes: &[u8],
+    files: &[u8],
+)
+    requires { length rows.now ≡ session_size }
+{
+    close_table(Table::Book, u, output, rows, orders, mailboxes, files);
+    close_table(Table::Mailboxes, u, output, rows, orders, mailboxes, files);
+    close_table(Table::Words, u, output, rows, orders, mailboxes, files);
+    close_table(Table::Files, u, output, rows, orders, mailboxes, files);
+    close_table(Table::Journal, u, output, rows, orders, mailboxes, files);
+    close_counts(output, rows);
+}
+
 // Makes the calls of all records, prints, and gives what the session leaves.
 pub fn session() -> SessionEnd
-    ensures { Session result.unit (journals_from result.journals) result.rows }
+    ensures { Session result.unit result.rows }
 {
     let mut input = [0u8; RECORD_BYTES];
     let mut output = [0u8; TABLE_ROOM];
-    let mut rows = [0u64; UNIT_ROWS];
-    let mut orders = [0u8; UNIT_STORE];
-    let mut mailboxes = [0u8; UNIT_STORE];
+    let mut rows = [0u64; SESSION_SIZE];
+    let mut orders = [0u8; STORE_BYTES];
+    let mut mailboxes = [0u8; STORE_BYTES];
     let mut payloads = [0u8; ROOMS_BYTES];
     let mut files = [0u8; ROOMS_BYTES];
     let mut buffer = [0u8; BUFFER_BYTES];
@@ -189,11 +231,11 @@ pub fn session() -> SessionEnd
     let mut stores = [0u8; STORES_BYTES];
     let mut runs = [0u64; RUNS_SIZE];
     let mut nonces = [0u8; NONCES_SIZE];
-    let mut journals = [0u64; JOURNALS_SIZE];
+    let mut row = [0u64; ROW_SIZE];
     read_all(
         &mut runs,
         &mut nonces,
-        &mut journals,
+        &mut row,
         &mut input,
         &mut output,
         &mut rows,
@@ -206,19 +248,7 @@ pub fn session() -> SessionEnd
         &mut lines,
         &mut stores,
     );
-    let unit = unit_of(&runs, &nonces);
-    close(
-        unit,
-        &mut output,
-        &journals,
-        &rows,
-        &orders,
-        &mailboxes,
-        &files,
-    );
-    SessionEnd {
-        unit,
-        journals,
-        rows,
-    }
+    let unit = unit_of(&runs, &nonces, &row);
+    close(unit, &mut output, &rows, &orders, &mailboxes, &files);
+    SessionEnd { unit, rows }
 }

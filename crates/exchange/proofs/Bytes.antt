@@ -59,8 +59,7 @@ unfolding outstanding upload_opening chosen_opening upload_transfer download_ope
 outstanding-request c time nonce = go c.direction
   where
     opens : (e : Edition) → IsRequest
-        (opening_by e (chosen_number c.terms) c.terms.bank c.subscriber c.exchange
-        (nonce_of nonce c.exchange) time c.segments)
+        (opening_by e (chosen_number c.terms) c.subscriber c.exchange (nonce_of nonce c.exchange) time c.segments)
     opens V24 = ((refl, refl), refl)
     opens V25 = ((refl, refl), refl)
 

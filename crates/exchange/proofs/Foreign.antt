@@ -135,9 +135,9 @@ case-under (signs c) z o = absurd (let y : ◌≡◌ {A = ℕ} 0 1 = cc in omega
 case-under (to_upload r a c) z o = asked-under r c.asked
 case-under (to_download r a c) z o = asked-under r c.asked
 
-pub id-download_transfer : (b s x : ℕ) (t : Bits128) (j : ℕ) → transaction (requests.download_transfer b s x t j) ≡ t
+pub id-download_transfer : (s x : ℕ) (t : Bits128) (j : ℕ) → transaction (requests.download_transfer s x t j) ≡ t
 unfolding requests.download_transfer
-id-download_transfer b s x t j = refl
+id-download_transfer s x t j = refl
 
 -- an opening is from a subscriber
 opened-range : {t : Bits128} {f : bank.Exchange} {g k : List bank.Exchange} → AllSound k → Stands f g k → Opening t f →
@@ -240,14 +240,12 @@ module _ (s : Course) (v : Parts s) (copies : Copied s) (numbers : OneExchangeNu
 
       sent : UploadIssue (s.runs j).terms (s.runs j).subscriber (s.runs j).segments (s.runs j).transaction (s.runs j).issued (s.payloads j)
           (as_issue x) → Out
-      sent (upload_opens n time nonce q d) =
-          let w = (s.runs j).terms.edition in
-          under-not under (inl (w, ap form q ∙ form-opening w _ _ _ _ _ _ _))
+      sent (upload_opens n time nonce q d) = under-not under (inl ((s.runs j).terms.edition, ap form q ∙ form-opening (s.runs j).terms.edition _ _ _ _ _ _))
       sent (sends n i a b q d) =
-          under-own (ap transaction q ∙ id-upload_transfer _ _ _ _ _ _)
+          under-own (ap transaction q ∙ id-upload_transfer _ _ _ _ _)
           (opened-upload sound (segment-opened (Gave h) (file_in h) (bank-replies h sound v.bank.proper) (own_past v j) (v.runs j).own
           (as_issue x) own
-          (ap form q ∙ form-upload_transfer _ _ _ _ _ _)))
+          (ap form q ∙ form-upload_transfer _ _ _ _ _)))
 
       held : 1 ≤ (s.runs j).segment → (at : Step) → DownloadStep (Gave v.bank.past.history) (file_in v.bank.past.history) at
           (own_past v j).run (s.files j) (issues_of j s.issued) →
@@ -258,14 +256,11 @@ module _ (s : Course) (v : Parts s) (copies : Copied s) (numbers : OneExchangeNu
 
       fetched : DownloadStep (Gave v.bank.past.history) (file_in v.bank.past.history) (s.runs j).step (own_past v j).run
           (s.files j) (issues_of j s.issued) →
-          DownloadIssue (s.runs j).terms.bank (s.runs j).subscriber (s.runs j).segments (s.runs j).transaction
-          (s.runs j).step (s.runs j).segment
+          DownloadIssue (s.runs j).subscriber (s.runs j).segments (s.runs j).transaction (s.runs j).step (s.runs j).segment
           (file_in v.bank.past.history (s.runs j).transaction) (as_issue x) → Out
-      fetched k (download_opens n time nonce q d) = under-not under (inr (ap form q ∙ form-download_opening _ _ _ _ _))
-      fetched k (asks n i a b c e q d) =
-          under-own (ap transaction q ∙ id-download_transfer _ _ _ _ _) (held (omega arith) (s.runs j).step k)
-      fetched k (confirms n a b e q d) =
-          under-own (ap transaction q ∙ id-receipt _ _ _ _ _) (held (omega arith) (s.runs j).step k)
+      fetched k (download_opens n time nonce q d) = under-not under (inr (ap form q ∙ form-download_opening _ _ _ _))
+      fetched k (asks n i a b c e q d) = under-own (ap transaction q ∙ id-download_transfer _ _ _ _) (held (omega arith) (s.runs j).step k)
+      fetched k (confirms n a b e q d) = under-own (ap transaction q ∙ id-receipt _ _ _ _) (held (omega arith) (s.runs j).step k)
 
       at : Invariant (Gave v.bank.past.history) (file_in v.bank.past.history) (own_past v j) → Out
       at (not-begun e g) = absurd (in-none (subst (In (as_issue x)) g own))

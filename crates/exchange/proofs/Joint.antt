@@ -112,10 +112,9 @@ at_before look empty t {g = g} sound stands o =
 opening-segments : {terms : RunTerms} {s n top : ℕ} {t : Bits128} {payload : List ℕ} {x : history.Issue} →
     UploadIssue terms s n t top payload x → form x.request ≡ opening_form terms.edition → segments x.request ≡ n
 opening-segments {terms} (upload_opens number time nonce q d) e =
-    ap segments q ∙ segments-opening terms.edition _ _ _ _ _ _ _
+    ap segments q ∙ segments-opening terms.edition _ _ _ _ _ _
 opening-segments {terms} (sends number j a b q d) e =
-    absurd (let y = not-opening terms.edition (λ z. cc) (λ z. cc)
-    (sym (ap form q ∙ form-upload_transfer _ _ _ _ _ _) ∙ e) in
+    absurd (let y = not-opening terms.edition (λ z. cc) (λ z. cc) (sym (ap form q ∙ form-upload_transfer _ _ _ _ _) ∙ e) in
     omega arith)
 
 module _ (s : Course) (v : Parts s) (copies : Copied s) (numbers : OneExchangeNumber s) where
@@ -170,13 +169,12 @@ module _ (s : Course) (v : Parts s) (copies : Copied s) (numbers : OneExchangeNu
     own-request = ap read_request (sym c.3)
 
     pub sent-id : transaction (read_request frame) ≡ (s.runs i).transaction
-    sent-id = ap transaction (own-request ∙ sent.request) ∙ id-upload_transfer _ _ _ _ _ _
+    sent-id = ap transaction (own-request ∙ sent.request) ∙ id-upload_transfer _ _ _ _ _
 
     pub sent-data : data_of frame ≡ segment_of (s.payloads i) (segment (read_request frame))
     sent-data =
         ap data_of (sym c.3) ∙ sent.bytes
-        ∙ ap (segment_of (s.payloads i))
-        (sym (ap segment (own-request ∙ sent.request) ∙ segment-upload_transfer _ _ _ _ _ _))
+        ∙ ap (segment_of (s.payloads i)) (sym (ap segment (own-request ∙ sent.request) ∙ segment-upload_transfer _ _ _ _ _))
 
     pub sender-uploads : Uploads i (transaction (read_request frame))
     sender-uploads = record {

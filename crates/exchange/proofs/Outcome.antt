@@ -153,18 +153,17 @@ opening-kind V25 = refl
 upload-kind : {terms : RunTerms} {s n top : ℕ} {t : Bits128} {payload : List ℕ} {x : history.Issue} →
     UploadIssue terms s n t top payload x → is_named (form x.request) ≡ true
 upload-kind {terms} (upload_opens number time nonce q d) =
-    ap is_named (ap form q ∙ form-opening terms.edition _ _ _ _ _ _ _) ∙ opening-kind terms.edition
-upload-kind (sends number j a b q d) = ap is_named (ap form q ∙ form-upload_transfer _ _ _ _ _ _)
+    ap is_named (ap form q ∙ form-opening terms.edition _ _ _ _ _ _) ∙ opening-kind terms.edition
+upload-kind (sends number j a b q d) = ap is_named (ap form q ∙ form-upload_transfer _ _ _ _ _)
 
-download-kind : {b s n next : ℕ} {t : Bits128} {at : Step} {f : List ℕ} {x : history.Issue} →
-    DownloadIssue b s n t at next f x →
+download-kind : {s n next : ℕ} {t : Bits128} {at : Step} {f : List ℕ} {x : history.Issue} → DownloadIssue s n t at next f x →
     is_named (form x.request) ≡ true
-download-kind (download_opens number time nonce q d) = ap is_named (ap form q ∙ form-download_opening _ _ _ _ _)
-download-kind (asks number j a b c e q d) = ap is_named (ap form q ∙ form-download_transfer _ _ _ _ _)
-download-kind (confirms number a b e q d) = ap is_named (ap form q ∙ form-receipt _ _ _ _ _)
+download-kind (download_opens number time nonce q d) = ap is_named (ap form q ∙ form-download_opening _ _ _ _)
+download-kind (asks number j a b c e q d) = ap is_named (ap form q ∙ form-download_transfer _ _ _ _)
+download-kind (confirms number a b e q d) = ap is_named (ap form q ∙ form-receipt _ _ _ _)
 
 pub receipt-id : {p : Past} {f : List ℕ} {x : history.Issue} → ReceiptIssued p f x → transaction x.request ≡ p.run.transaction
-receipt-id r = ap transaction r.request ∙ id-receipt _ _ _ _ _
+receipt-id r = ap transaction r.request ∙ id-receipt _ _ _ _
 
 cancelled-code : {c : ReturnCode} → (c ≡ code.TransactionAbort) ⊎ ((c ≡ code.SegmentNumberExceeded) ⊎ (c ≡ code.SegmentNumberUnderrun)) →
     is_cancelling (code_field c) ≡ true

@@ -96,20 +96,20 @@ use Rattle.exchange.proofs.OpenTransactions.{OpenUnlessIdle}
 
 -- ---- the fields of the requests
 
-transfer-fields : (b s x : ℕ) (t : Bits128) (j mark : ℕ) → let q = upload_transfer b s x t j mark in
+transfer-fields : (s x : ℕ) (t : Bits128) (j mark : ℕ) → let q = upload_transfer s x t j mark in
     (subscriber q ≡ s) × (transaction q ≡ t) × (segment q ≡ j) × (last_mark q ≡ mark)
 unfolding upload_transfer
-transfer-fields b s x t j mark = (refl, refl, refl, refl)
+transfer-fields s x t j mark = (refl, refl, refl, refl)
 
-asking-fields : (b s x : ℕ) (t : Bits128) (j : ℕ) → let q = download_transfer b s x t j in
+asking-fields : (s x : ℕ) (t : Bits128) (j : ℕ) → let q = download_transfer s x t j in
     (subscriber q ≡ s) × (transaction q ≡ t) × (segment q ≡ j)
 unfolding download_transfer
-asking-fields b s x t j = (refl, refl, refl)
+asking-fields s x t j = (refl, refl, refl)
 
-receipt-fields : (b s x : ℕ) (t : Bits128) (n : ℕ) → let q = receipt b s x t n in
+receipt-fields : (s x : ℕ) (t : Bits128) (n : ℕ) → let q = receipt s x t n in
     (subscriber q ≡ s) × (transaction q ≡ t) × (receipt_code q ≡ n)
 unfolding receipt
-receipt-fields b s x t n = (refl, refl, refl)
+receipt-fields s x t n = (refl, refl, refl)
 
 -- the bank's reply to an accepted opening
 opened-reply : (x : Edition) (m : ℕ) (id : Bits128) (q : Fields) → opened_reply x m id q ≡ opened_with x (exchange q) id (order_number_of m)
@@ -369,7 +369,7 @@ module _ (s : Course) (v : Parts s) (copies : Copied s) (numbers : OneExchangeNu
           request = asked.request ∙ is-upload_opening (own_past v i).run asked.time asked.nonce [] turn.direction turn.step
 
           asks-form : form (read_request a.frame) ≡ opening_form c.terms.edition
-          asks-form = ap form request ∙ form-opening c.terms.edition _ _ _ _ _ _ _
+          asks-form = ap form request ∙ form-opening c.terms.edition _ _ _ _ _ _
 
           edition : edition_of (read_request a.frame) ≡ c.terms.edition
           edition = ap form_edition asks-form ∙ opening-edition c.terms.edition
@@ -394,7 +394,7 @@ module _ (s : Course) (v : Parts s) (copies : Copied s) (numbers : OneExchangeNu
                     (subst (λ (n : ℕ). UploadAt (answered a v.bank.past).bank_state id
                     (subscriber (read_request a.frame)) 0 n
                     (max v.bank.past.bank_state.bank.clock a.time))
-                    (ap segments request ∙ segments-opening c.terms.edition _ _ _ _ _ _ _) there)),
+                    (ap segments request ∙ segments-opening c.terms.edition _ _ _ _ _ _) there)),
               )
 
           at : (id : Bits128) × (k : Action) × (x.verdict ≡ verdict.Of id k) × (is_opening k ≡ true) → State t i p
@@ -411,12 +411,12 @@ module _ (s : Course) (v : Parts s) (copies : Copied s) (numbers : OneExchangeNu
       unfolding exchange_of
       download-opening j turn first ok = at (opening-done (inr asks-form) ok)
         where
-          request : read_request a.frame ≡ download_opening c.terms.bank c.subscriber c.exchange
+          request : read_request a.frame ≡ download_opening c.subscriber c.exchange
               (nonce_of asked.nonce c.exchange) asked.time
           request = asked.request ∙ is-download_opening (own_past v i).run asked.time asked.nonce [] turn.direction turn.step
 
           asks-form : form (read_request a.frame) ≡ forms.DownloadOpening
-          asks-form = ap form request ∙ form-download_opening _ _ _ _ _
+          asks-form = ap form request ∙ form-download_opening _ _ _ _
 
           opened : (id : Bits128) (n : ℕ) → x.verdict ≡ verdict.Of id (action.Download (down.Opened n)) → State t i p
           opened id n e =
@@ -466,19 +466,17 @@ module _ (s : Course) (v : Parts s) (copies : Copied s) (numbers : OneExchangeNu
           )
         where
           request : read_request a.frame
-              ≡ upload_transfer c.terms.bank c.subscriber c.exchange c.transaction c.segment
-              (last_mark_of c.segment c.segments)
+              ≡ upload_transfer c.subscriber c.exchange c.transaction c.segment (last_mark_of c.segment c.segments)
           request = asked.request ∙ is-upload_transfer (own_past v i).run asked.time asked.nonce [] turn.direction turn.step
 
           fields : let q =
-              upload_transfer c.terms.bank c.subscriber c.exchange c.transaction c.segment
-              (last_mark_of c.segment c.segments) in
+              upload_transfer c.subscriber c.exchange c.transaction c.segment (last_mark_of c.segment c.segments) in
               (subscriber q ≡ c.subscriber) × (transaction q ≡ c.transaction) × (segment q ≡ c.segment)
               × (last_mark q ≡ last_mark_of c.segment c.segments)
-          fields = transfer-fields _ _ _ _ _ _
+          fields = transfer-fields _ _ _ _ _
 
           kind : form (read_request a.frame) ≡ forms.UploadTransfer
-          kind = ap form request ∙ form-upload_transfer _ _ _ _ _ _
+          kind = ap form request ∙ form-upload_transfer _ _ _ _ _
 
           from : subscriber (read_request a.frame) ≡ c.subscriber
           from = ap subscriber request ∙ fields.0
@@ -566,17 +564,16 @@ module _ (s : Course) (v : Parts s) (copies : Copied s) (numbers : OneExchangeNu
                 (short-download turn.direction (ap is_open turn.step) k o from to) (in-hour o) kind next-segment reach)),
           )
         where
-          request : read_request a.frame
-              ≡ download_transfer c.terms.bank c.subscriber c.exchange c.transaction c.segment
+          request : read_request a.frame ≡ download_transfer c.subscriber c.exchange c.transaction
+              c.segment
           request = asked.request ∙ is-download_transfer (own_past v i).run asked.time asked.nonce [] turn.direction turn.step
 
-          fields : let q =
-              download_transfer c.terms.bank c.subscriber c.exchange c.transaction c.segment in
+          fields : let q = download_transfer c.subscriber c.exchange c.transaction c.segment in
               (subscriber q ≡ c.subscriber) × (transaction q ≡ c.transaction) × (segment q ≡ c.segment)
-          fields = asking-fields _ _ _ _ _
+          fields = asking-fields _ _ _ _
 
           kind : form (read_request a.frame) ≡ forms.DownloadTransfer
-          kind = ap form request ∙ form-download_transfer _ _ _ _ _
+          kind = ap form request ∙ form-download_transfer _ _ _ _
 
           from : subscriber (read_request a.frame) ≡ c.subscriber
           from = ap subscriber request ∙ fields.0
@@ -617,12 +614,12 @@ module _ (s : Course) (v : Parts s) (copies : Copied s) (numbers : OneExchangeNu
       download-receipt j turn (direction, o) =
           told-by Download step.Receipt j turn r
         where
-          request : read_request a.frame ≡ receipt c.terms.bank c.subscriber c.exchange c.transaction 0
+          request : read_request a.frame ≡ receipt c.subscriber c.exchange c.transaction 0
           request = asked.request ∙ is-receipt (own_past v i).run asked.time asked.nonce [] turn.direction turn.step
 
-          fields : let q = receipt c.terms.bank c.subscriber c.exchange c.transaction 0 in
+          fields : let q = receipt c.subscriber c.exchange c.transaction 0 in
               (subscriber q ≡ c.subscriber) × (transaction q ≡ c.transaction) × (receipt_code q ≡ 0)
-          fields = receipt-fields _ _ _ _ _
+          fields = receipt-fields _ _ _ _
 
           from : subscriber (read_request a.frame) ≡ c.subscriber
           from = ap subscriber request ∙ fields.0
@@ -635,7 +632,7 @@ module _ (s : Course) (v : Parts s) (copies : Copied s) (numbers : OneExchangeNu
               replies _ (bank_turn.download-confirms a v.bank.past v.bank.holds c.transaction c.subscriber
               c.segments o.last (before-download turn.direction (ap is_open turn.step) c.segments o from to) from to
               (short-download turn.direction (ap is_open turn.step) c.segments o from to) (in-hour o)
-              (ap form request ∙ form-receipt _ _ _ _ _)
+              (ap form request ∙ form-receipt _ _ _ _)
               (sym (count-now turn.direction (ap is_open turn.step) c.segments o from to)) (ap receipt_code request ∙ fields.2))
               ∙ ap (λ (n : ℕ). receipt_answered n c.transaction code.DownloadPostprocessDone) is-outstanding
 

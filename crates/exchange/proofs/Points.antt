@@ -101,9 +101,9 @@ use Rattle.exchange.proofs.Foreign.{Under, sending, asking, confirming, id-downl
 
 -- ---- the requests of a download
 
-number-asked : (b s x : ℕ) (t : Bits128) (j : ℕ) → segment (requests.download_transfer b s x t j) ≡ j
+number-asked : (s x : ℕ) (t : Bits128) (j : ℕ) → segment (requests.download_transfer s x t j) ≡ j
 unfolding requests.download_transfer
-number-asked b s x t j = refl
+number-asked s x t j = refl
 
 -- the request asks, under the download t, for a segment sent already or the next one up to N; as a receipt it finds all N delivered
 record Fitting (h : List bank.Exchange) (issues : List history.Issue) (t : Bits128) (q : Fields) : Type 0 where
@@ -167,9 +167,9 @@ module _ (s : Course) (v : Parts s) (copies : Copied s) (numbers : OneExchangeNu
       sent : {terms : RunTerms} {n c top : ℕ} {t : Bits128} {payload : List ℕ} → UploadIssue terms n c t top payload (as_issue x) → Out
       sent {terms} (upload_opens n time nonce e d) =
           let w = terms.edition in
-          other (ap form e ∙ form-opening w _ _ _ _ _ _ _) (λ z. not-opening w (λ z. cc) (λ z. cc) (sym z))
+          other (ap form e ∙ form-opening w _ _ _ _ _ _) (λ z. not-opening w (λ z. cc) (λ z. cc) (sym z))
           (λ z. not-opening w (λ z. cc) (λ z. cc) (sym z))
-      sent (sends n i a b e d) = other (ap form e ∙ form-upload_transfer _ _ _ _ _ _) (λ z. cc) (λ z. cc)
+      sent (sends n i a b e d) = other (ap form e ∙ form-upload_transfer _ _ _ _ _) (λ z. cc) (λ z. cc)
 
       Held : Type 0
       Held = FileHeld (Gave v.bank.past.history) (file_in v.bank.past.history) (own_past v j).run (s.files j) (issues_of j s.issued)
@@ -182,22 +182,19 @@ module _ (s : Course) (v : Parts s) (copies : Copied s) (numbers : OneExchangeNu
 
       fetched : DownloadStep (Gave v.bank.past.history) (file_in v.bank.past.history) (s.runs j).step (own_past v j).run
           (s.files j) (issues_of j s.issued) →
-          DownloadIssue (s.runs j).terms.bank (s.runs j).subscriber (s.runs j).segments (s.runs j).transaction
-          (s.runs j).step (s.runs j).segment
+          DownloadIssue (s.runs j).subscriber (s.runs j).segments (s.runs j).transaction (s.runs j).step (s.runs j).segment
           (file_in v.bank.past.history (s.runs j).transaction) (as_issue x) → Out
-      fetched k (download_opens n time nonce e d) =
-          other (ap form e ∙ form-download_opening _ _ _ _ _) (λ z. cc) (λ z. cc)
+      fetched k (download_opens n time nonce e d) = other (ap form e ∙ form-download_opening _ _ _ _) (λ z. cc) (λ z. cc)
       fetched k (asks n i a b c g e d) =
           let f = held (omega arith) (s.runs j).step k in
           let w = held-sent sound f in
-          let y : segment (read_request x.frame) ≡ i = ap segment e ∙ number-asked _ _ _ _ _ in
+          let y : segment (read_request x.frame) ≡ i = ap segment e ∙ number-asked _ _ _ _ in
           let z = f.number in
           record {
-            id = ap transaction e ∙ id-download_transfer _ _ _ _ _;
+            id = ap transaction e ∙ id-download_transfer _ _ _ _;
             opened = opened-download sound f;
             transfer = λ _. (omega arith, omega arith, omega arith);
-            receipt = λ g. absurd (let u : forms.DownloadTransfer ≡ forms.Receipt =
-                sym (ap form e ∙ form-download_transfer _ _ _ _ _) ∙ g in
+            receipt = λ g. absurd (let u : forms.DownloadTransfer ≡ forms.Receipt = sym (ap form e ∙ form-download_transfer _ _ _ _) ∙ g in
                 let t : ◌≡◌ {A = ℕ} 0 1 = cc in omega arith);
           }
       fetched k (confirms n a b g e d) =
@@ -205,10 +202,9 @@ module _ (s : Course) (v : Parts s) (copies : Copied s) (numbers : OneExchangeNu
           let w = held-sent sound f in
           let z = f.number in
           record {
-            id = ap transaction e ∙ id-receipt _ _ _ _ _;
+            id = ap transaction e ∙ id-receipt _ _ _ _;
             opened = opened-download sound f;
-            transfer = λ y. absurd (let u : forms.Receipt ≡ forms.DownloadTransfer =
-                sym (ap form e ∙ form-receipt _ _ _ _ _) ∙ y in
+            transfer = λ y. absurd (let u : forms.Receipt ≡ forms.DownloadTransfer = sym (ap form e ∙ form-receipt _ _ _ _) ∙ y in
                 let t : ◌≡◌ {A = ℕ} 0 1 = cc in omega arith);
             receipt = λ _. omega arith;
           }

@@ -161,10 +161,10 @@ module _ (s : Course) (v : Parts s) (copies : Copied s) (numbers : OneExchangeNu
           (f ≡ forms.ChosenOpening → ◌≡◌ {A = ℕ} 0 1) → ⊥
       other g z k = let u = not-opening w z k (sym g ∙ e) in omega arith
 
-      each : {b u k next : ℕ} {i : Bits128} {at : Step} {f : List ℕ} → DownloadIssue b u k i at next f y → ⊥
-      each (download_opens k time nonce q d) = other (ap form q ∙ form-download_opening _ _ _ _ _) (λ z. cc) (λ z. cc)
-      each (asks k j a b c f q d) = other (ap form q ∙ form-download_transfer _ _ _ _ _) (λ z. cc) (λ z. cc)
-      each (confirms k a b f q d) = other (ap form q ∙ form-receipt _ _ _ _ _) (λ z. cc) (λ z. cc)
+      each : {u k next : ℕ} {i : Bits128} {at : Step} {f : List ℕ} → DownloadIssue u k i at next f y → ⊥
+      each (download_opens k time nonce q d) = other (ap form q ∙ form-download_opening _ _ _ _) (λ z. cc) (λ z. cc)
+      each (asks k j a b c f q d) = other (ap form q ∙ form-download_transfer _ _ _ _) (λ z. cc) (λ z. cc)
+      each (confirms k a b f q d) = other (ap form q ∙ form-receipt _ _ _ _) (λ z. cc) (λ z. cc)
 
       at : Invariant (Gave h) (file_in h) (own_past v x.run) → ⊥
       at (not-begun a g) = in-none (subst (In y) g n)

@@ -188,12 +188,11 @@ pub data Move : Type 0 where
 
 -- run, direction, subscriber, first exchange number, payload
 abbrev pub begin : ℕ → Direction → ℕ → ℕ → List ℕ → Move
-begin i direction u first payload = begin_at i 1000 (parameters_of direction u first (terms_of25 1)) payload
+begin i direction u first payload = begin_at i 1000 (parameters_of direction u first terms_of25) payload
 
 -- an upload of edition 2.4: run, time, subscriber, first exchange number, order number chosen, payload
 abbrev pub chooses : ℕ → ℕ → ℕ → ℕ → ℕ → List ℕ → Move
-chooses i time u first n payload =
-    begin_at i time (parameters_of Upload u first (record { bank = 1; edition = V24; number = n })) payload
+chooses i time u first n payload = begin_at i time (parameters_of Upload u first (record { edition = V24; number = n })) payload
 
 -- what a run is lent at a time, and at the time of all calls but the late ones
 abbrev pub lent_at : ℕ → List ℕ → List ℕ → Lent

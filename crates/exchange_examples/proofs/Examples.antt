@@ -12,7 +12,6 @@ use Rattle.frame_table.specs.Names.{segment, return_code, form}
 use Rattle.frame_table.specs.Table.{last_time}
 use Rattle.frame_reader.specs.Reader.{read_request, read_reply}
 use Rattle.frame_writer.specs.Writer.{frame_of}
-use Rattle.octets.proofs.Tests.{never}
 use Rattle.message.specs.declared.codes.ReturnCode.TheVariants as code
 use Rattle.message.specs.Codes.{code_field}
 use Rattle.message.specs.OrderNumbers.{order_number_of}
@@ -26,7 +25,6 @@ use Rattle.journal.specs.declared.event.Found.TheVariants as found
 use Rattle.journal.specs.Events.{max_entries}
 use Rattle.journal.specs.Records.{name_of as name_in}
 use Rattle.journal.specs.Row.{empty_row, with_kind, lookup}
-use Rattle.bank_state.specs.declared.state.Place.{Place}
 use Rattle.bank_state.specs.declared.state.Use.TheVariants as uses
 use Rattle.bank_state.specs.Limits.{place_count, store_bytes, idle_limit}
 use Rattle.bank_state.specs.State.{place_at}
@@ -38,7 +36,6 @@ use Rattle.opening_counts.specs.Counts.{seven, no_counts, most_moved}
 use Rattle.bank_session.specs.Session.{LentSession, session, session_size, with_numbers, bank_in, journal_in}
 use Rattle.image_calls.specs.declared.calls.TakenUp.TheVariants as taken
 use Rattle.image_calls.specs.Calls.{image_length, lengths_right, put_away, TakeUp, take_up_of, take_up}
-use Rattle.client.specs.Journal.{ended_unclear, journal_call}
 use Rattle.client_run.specs.declared.run.Direction.TheVariants.{Upload, Download}
 use Rattle.client_run.specs.declared.run.Stage.TheVariants as stage
 use Rattle.client_run.specs.declared.run.Word.{Word}
@@ -49,7 +46,6 @@ use Rattle.exchange.specs.Course.{
   frame_arrives,
   file_put,
   no_reply,
-  journal_handed,
   takes_up,
   Exchange,
   Course,
@@ -271,7 +267,7 @@ own_series = both_first ++ (stray (1 ∷ 2 ∷ 3 ∷ []) first_gone ∷ hands 0 
 
 -- a signing of subscriber 1's A000 by subscriber u, with this nonce
 abbrev signing_by : ℕ → ℕ → List ℕ
-signing_by u n = frame_of (signing 1 u 300 (record { high = 1; low = n }) 1000 (order_number_of 0) 1) []
+signing_by u n = frame_of (signing u 300 (record { high = 1; low = n }) 1000 (order_number_of 0) 1) []
 
 -- An order in turn that others sign, by requests that no run issued: subscriber 2 before the booking, who is refused and
 -- signs after it by the same request, and subscriber 3, twice
@@ -515,35 +511,6 @@ computed-choices = record {
   number-again-done = meets number_again tt refl (refl, refl, refl, refl, refl, refl);
   ten-calls-done = meets ten_calls tt refl refl;
 }
-
--- ---- reading 13.6: "IDs may agree between banks"
-
--- s is the course of a bank and its clients, t that of another bank of the unit, lent the same ID bytes: its row, handed
--- to run 0 of s, holds a booking under the run's transaction ID, and the run's own upload is still open
-record OtherRow (s t : Course) : Type 0 where
-  taken : call_number (journal_handed 0 (s.runs 0) t.journal.row) ≡ 0
-  lodges : (journal_call (s.runs 0) t.journal.row).run.stage ≡ stage.Ended Lodged
-  own-unclear : (journal_call (s.runs 0) s.journal.row).run.stage ≡ stage.Ended Unclear
-  unbooked : map (λ (p : Place). p.used) s.bank.bank.places ≡ uses.Open ∷ replicate (place_count - 1) uses.Free
-
-other-row-done : Meets losing (λ (t : Course). Meets waiting (λ (s : Course). OtherRow s t))
-unfolding both_ends
-other-row-done =
-    meets losing tt refl
-    (meets waiting tt refl (record { taken = refl; lodges = refl; own-unclear = refl; unbooked = refl }))
-
--- falsely lodged, were the row allowed
-other_row : OtherRow (end_of waiting start) (end_of losing start)
-other_row = other-row-done.ends.ends
-
--- the premise excludes it
-other-row-refused : let s = end_of waiting start in
-    Allowed (journal_handed 0 (s.runs 0) (end_of losing start).journal.row) s → ⊥
-other-row-refused a =
-    let s = end_of waiting start in
-    never (ap ended_unclear (sym other_row.lodges
-    ∙ ap (λ (row : List Event). (journal_call (s.runs 0) row).run.stage) (a other_row.taken).1
-    ∙ other_row.own-unclear))
 
 -- ---- with the image's bytes
 

@@ -94,7 +94,7 @@ unfolding frame_bytes.number_from frame_bytes.number frame_bytes.bytes_of frame_
     client_decisions.on_download client_decisions.is_answer client_decisions.on_reply client_decisions.on_no_reply
     client_next_run.begun client_next_run.go_on client_next_run.repeated
     client_next_run.ended client_run.chosen_number client_requests.nonce_of client_requests.outstanding client_requests.outstanding_data
-    client_rulings.wrong_lengths client_rulings.outside client_rulings.time_first client_rulings.ruling_at_begin
+    client_rulings.wrong_lengths client_rulings.no_subscriber client_rulings.time_first client_rulings.ruling_at_begin
     client_rulings.begin_ruling client_rulings.ruling_not_begun client_rulings.ruling_running client_rulings.ruling_ended
     client_rulings.run_ruling course.start course.mailbox_of course.held_of course.emptied
     course.exec is_subscribers journal_events.events_from journal_row.empty_row journal_row.entered journal_row.entered_all

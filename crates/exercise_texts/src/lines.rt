@@ -1,7 +1,7 @@
 // The line of a move: call, who to whom, what the frame says, repeated, what became of the message, and what the call
 // answered.
 use crate::say::{VALUES, say, say_closing, say_end};
-use crate::script::{Move, order_of, signature_of, told_bank, told_signing};
+use crate::script::{Move, order_of, signature_of};
 use frame_reader::reader::{read_reply, read_request};
 use frame_table::fields::Fields;
 use frame_table::table::{Form, ReplyForm, RequestForm};
@@ -152,13 +152,12 @@ fn fields_of(letter: u8, frame: &[u8]) -> Fields {
 }
 
 // The values of a move's line that the frame does not say, or not in every message: the client run, or the owner of the
-// order that is signed, the subscriber, the order's bytes, and the bank where it is told.
+// order that is signed, the subscriber, and the order's bytes.
 #[derive(Drop)]
 struct Party {
     pub run: u64,
     pub subscriber: u64,
     pub bytes: u64,
-    pub bank: u64,
 }
 
 fn party_of(m: Move, q: Fields) -> Party {
@@ -170,13 +169,11 @@ fn party_of(m: Move, q: Fields) -> Party {
             run: q.owner(),
             subscriber: s.subscriber,
             bytes: 0,
-            bank: told_signing(m.run),
         },
         _ => Party {
             run: m.run as u64,
             subscriber: o.subscriber as u64,
             bytes: o.bytes as u64,
-            bank: told_bank(m.run),
         },
     }
 }
@@ -195,21 +192,7 @@ fn values_of(m: Move, q: Fields) -> [u64; VALUES] {
         q.order_number(),
         q.return_code(),
         q.last_mark(),
-        p.bank,
     ]
-}
-
-// Says at which bank a run begins, and whose journal is handed to it, where the bank is told.
-fn say_told(letter: u8, run: u8, v: [u64; VALUES]) {
-    if told_bank(run) == 0 {
-        return;
-    }
-    if letter == b'U' {
-        say(b'~', v);
-    }
-    if letter == b'J' {
-        say(b'^', v);
-    }
 }
 
 // Prints the line of a move that made this answer.
@@ -217,7 +200,6 @@ pub fn say_line(m: Move, frame: &[u8], answer: Answer) {
     let q = fields_of(m.letter, frame);
     let v = values_of(m, q);
     say(m.letter, v);
-    say_told(m.letter, m.run, v);
     if has_message(m.letter) {
         say_message(m.letter, q.form(), m.repeated, v);
     }

@@ -1,6 +1,6 @@
 // The record of a move, and the messages under way: the last request, the bank's last reply, a request held back, the
 // request whose second copy is still to come, and a late reply.
-use crate::script::{MOVES_C, Move, SIGNINGS, bank_of, byte_at, order_of, signature_of, terms_of};
+use crate::script::{MOVES_C, Move, SIGNINGS, byte_at, order_of, signature_of, terms_of};
 use bank_state::limits::{ID_BYTES, IDLE_LIMIT, REPLY_ROOM};
 use frame_table::fields::Bits128;
 use frame_writer::writer::{Written, write};
@@ -10,9 +10,9 @@ use octets::bytes::{behind, copy, front};
 use print::text::put_digits;
 use unit_state::answer::Answer;
 use unit_state::record::{
-    BANK_BYTES, EDITION_AT, EDITION_BYTES, EXTENT_BYTES, FIRST_BYTES, IDS_AT, LENT_AT,
-    LETTER_BYTES, MAILBOX_BYTES, ORDER_AT, ORDER_BYTES, ROOM_BYTES, RUN_BANK_AT, RUN_BYTES,
-    SUBSCRIBER_BYTES, TIME_BYTES, UPLOAD_HEAD, lent_length,
+    EDITION_AT, EDITION_BYTES, EXTENT_BYTES, FIRST_BYTES, IDS_AT, LETTER_BYTES, MAILBOX_BYTES,
+    ORDER_AT, ORDER_BYTES, ROOM_BYTES, RUN_BYTES, SUBSCRIBER_AT, SUBSCRIBER_BYTES, TIME_BYTES,
+    UPLOAD_HEAD, lent_length,
 };
 
 // Thursday 28 March 2024, 15:59:26, the last business day before Easter, in milliseconds. Each move comes a second after
@@ -36,10 +36,10 @@ const FRAME_AT: usize = IDS_AT + ID_BYTES;
 
 const BEGIN_AT: usize = ORDER_AT + ORDER_BYTES;
 
-const CALL_AT: usize = RUN_BANK_AT;
+const CALL_AT: usize = SUBSCRIBER_AT;
 
 // The places of the messages: each is its length in two bytes, and its bytes. After them the record that takes up the
-// image, but for its letter and its bank.
+// image, but for its letter.
 const REQUEST_AT: usize = 0;
 
 const REPLY_AT: usize = REQUEST_AT + 2 + REPLY_ROOM;
@@ -52,7 +52,7 @@ const LATE_AT: usize = SENT_AT + 2 + REPLY_ROOM;
 
 const IMAGE_AT: usize = LATE_AT + 2 + REPLY_ROOM;
 
-pub const MAIL_BYTES: usize = IMAGE_AT + LENT_AT + EXTENT_BYTES;
+pub const MAIL_BYTES: usize = IMAGE_AT + LETTER_BYTES + EXTENT_BYTES;
 
 // Bytes that differ from their neighbours, so that a misplaced part shows.
 pub fn example_text() -> [u8; TEXT_BYTES] {
@@ -103,8 +103,8 @@ fn body_at(s: &[u8], at: usize) -> &[u8] {
     front(behind(b, 2), size)
 }
 
-// What stands before the body of a record: the letter with the run, the bank or both, or the bank and the mailbox, in so
-// many bytes, after them the time or a length in the image room, in so many bytes, and a begin's bank and order.
+// What stands before the body of a record: the letter with the run or the mailbox, in so many bytes, after them the time
+// or a length in the image room, in so many bytes, and a begin's order.
 #[derive(Drop)]
 struct Head {
     pub name: u64,
@@ -120,17 +120,16 @@ struct Head {
 fn head_of(letter: u8, run: u8, time: u64, image: u64) -> Head {
     let o = order_of(run);
     let subscriber = o.subscriber as u64;
-    let bank = bank_of(run) as u64;
     let first = letter as u64;
     let called = first * 256 + run as u64;
     match letter {
         b'M' => Head {
-            name: (first * 65536 + bank) * 65536 + subscriber,
-            named: LETTER_BYTES + BANK_BYTES + MAILBOX_BYTES,
+            name: first * 65536 + subscriber,
+            named: LETTER_BYTES + MAILBOX_BYTES,
             number: 0,
             width: 0,
             order: 0,
-            body: LETTER_BYTES + BANK_BYTES + MAILBOX_BYTES,
+            body: LETTER_BYTES + MAILBOX_BYTES,
         },
         b'F' | b'G' => Head {
             name: b'F' as u64,
@@ -141,27 +140,19 @@ fn head_of(letter: u8, run: u8, time: u64, image: u64) -> Head {
             body: FRAME_AT,
         },
         b'P' | b'T' => Head {
-            name: first * 65536 + bank,
-            named: LETTER_BYTES + BANK_BYTES,
+            name: first,
+            named: LETTER_BYTES,
             number: image,
             width: EXTENT_BYTES,
             order: 0,
-            body: LENT_AT + EXTENT_BYTES,
-        },
-        b'J' => Head {
-            name: called * 65536 + bank,
-            named: LETTER_BYTES + RUN_BYTES + BANK_BYTES,
-            number: 0,
-            width: 0,
-            order: 0,
-            body: CALL_AT,
+            body: LETTER_BYTES + EXTENT_BYTES,
         },
         b'U' | b'D' => Head {
             name: called,
             named: LETTER_BYTES + RUN_BYTES,
             number: time,
             width: TIME_BYTES,
-            order: (bank * 65536 + subscriber) * 4294967296 + run as u64 * 100,
+            order: subscriber * 4294967296 + run as u64 * 100,
             body: BEGIN_AT,
         },
         _ => Head {
@@ -213,8 +204,8 @@ fn put_record(record: &mut [u8], m: Move, image: u64, body: &[u8]) {
     put_number(record, h.named, h.width, h.number);
     put_number(
         record,
-        RUN_BANK_AT,
-        BANK_BYTES + SUBSCRIBER_BYTES + FIRST_BYTES,
+        SUBSCRIBER_AT,
+        SUBSCRIBER_BYTES + FIRST_BYTES,
         h.order,
     );
     put_terms(record, m.letter, m.run);
@@ -280,7 +271,6 @@ pub fn put_signing(mail: &mut [u8], m: Move) {
         low: s.nonce,
     };
     let fields = signing(
-        s.bank,
         s.subscriber,
         SIGNINGS + m.run as u64,
         nonce,
@@ -302,7 +292,7 @@ fn keep_written(mail: &mut [u8], answer: Answer, buffer: &[u8]) {
     match answer {
         Answer::Frame(n) => put_body(mail, REPLY_AT, front(buffer, n)),
         Answer::Request(n) => put_body(mail, REQUEST_AT, front(buffer, n)),
-        Answer::Away(n) => put_number(mail, IMAGE_AT + LENT_AT, EXTENT_BYTES, n as u64),
+        Answer::Away(n) => put_number(mail, IMAGE_AT + LETTER_BYTES, EXTENT_BYTES, n as u64),
         _ => (),
     }
 }

@@ -8,24 +8,14 @@ use print::text::{ORDER_CHARACTERS, code_digits, put_order_number};
 
 // What the digits stand for: 0 the call, 1 the client run or a signed order's owner, 2 the subscriber, 3 bytes, 4 a
 // segment, 5 segments, 6 the exchange number, 7 an order number, 8 a return code, 9 " (last)" where the last mark is 1;
-// of the counts 0 to 6 the seven, and 0 their sum. @ stands for a space and the bank where it is told, the last value.
-pub const VALUES: usize = 11;
-
-const BANK: usize = 10;
+// of the counts 0 to 6 the seven, and 0 their sum.
+pub const VALUES: usize = 10;
 
 // Prints an order number, given as the number of field 0E.
 fn say_order_number(x: u64) {
     let mut text = [0u8; ORDER_CHARACTERS];
     put_order_number(&mut text, 0, x);
     io::write_all(STDOUT_FILENO, &text);
-}
-
-// Prints a bank, where one is told.
-fn say_bank(x: u64) {
-    if x != 0 {
-        io::write_all(STDOUT_FILENO, b" ");
-        io::print_decimal(STDOUT_FILENO, x);
-    }
 }
 
 // Prints value k.
@@ -36,19 +26,14 @@ fn say_value(k: usize, x: u64) {
         say_order_number(x);
     } else if k == 8 {
         io::write_all(STDOUT_FILENO, &code_digits(x));
-    } else if k == BANK {
-        say_bank(x);
     } else if x == 1 {
         io::write_all(STDOUT_FILENO, b" (last)");
     }
 }
 
-// The value that a byte stands for; no value where it is no digit and not the bank's.
+// The value that a byte stands for; no value where it is no digit.
 fn value_of(b: u8) -> usize {
-    if b == b'@' {
-        return BANK;
-    }
-    if b < b'0' || b'9' < b {
+    if b < b'0' {
         return VALUES;
     }
     (b - b'0') as usize
@@ -86,22 +71,21 @@ fn say_keyed(table: &[u8], key: u8, v: [u64; VALUES]) {
 // repeats one, C the code of a reply, O, S, Y, K, L, I, 8, m, y and z the codes' names in Annex 1; x, l, r and t for
 // what became of a message, H for the hour; i, q, w and n for what the call answered; u and d for a run's row in
 // exercise C, o for a run that has not ended, B, Z and X for what the bank has, V and W for whether the closing word is
-// true, v for an order and its day, # for where every opening ended, = for how many they are; in exercise E ~ for the
-// bank of a run that begins, ^ for that of a journal, + for a run's row, $ for what the bank has.
+// true, v for an order and its day, # for where every opening ended, = for how many they are.
 pub fn say(key: u8, v: [u64; VALUES]) {
     say_keyed(
         b"\
             M0 host -> bank: file for mailbox 2, 3 bytes\n\
             U0 client 1: upload begun\n\
             D0 client 1: download begun\n\
-            F0 client 1 -> bank@: \n\
-            R0 bank@ -> client 1: \n\
+            F0 client 1 -> bank: \n\
+            R0 bank -> client 1: \n\
             N0 client 1: no reply\n\
             J0 client 1: the journal\n\
             P0 host: the session put away\n\
             T0 host: the session taken up\n\
-            G0 subscriber 2 -> bank@: \n\
-            Q0 bank@ -> subscriber 2: \n\
+            G0 subscriber 2 -> bank: \n\
+            Q0 bank -> subscriber 2: \n\
             1upload opening of 5 segments\n\
             2download opening\n\
             3upload segment 49\n\
@@ -153,10 +137,6 @@ pub fn say(key: u8, v: [u64; VALUES]) {
             v2 FUL 7 is executed on \n\
             #openings: 0 open, 1 booked, 2 fetched, 3 skipped, 4 ended by another receipt, 5 cancelled, 6 dropped\n\
             =; 0 in all\n\
-            ~ at bank@\n\
-            ^ of bank@\n\
-            +client 1, upload at bank@: \n\
-            $bank@\n\
             ",
         key,
         v,

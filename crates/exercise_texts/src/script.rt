@@ -2,7 +2,7 @@
 use message::order_numbers::order_number_of;
 use octets::bytes::behind;
 
-// The client runs of exercises A to C, numbered from 1.
+// The client runs, numbered from 1.
 pub const RUN_COUNT: usize = 6;
 
 // An order: its subscriber, and the bytes of its payload or of its statement.
@@ -35,37 +35,11 @@ pub fn order_of(run: u8) -> Order {
             subscriber: 4,
             bytes: 300,
         },
-        8 | 9 => Order {
-            subscriber: 5,
-            bytes: 300,
-        },
         _ => Order {
             subscriber: 1,
             bytes: 700,
         },
     }
-}
-
-// The client runs of exercise E, the first at bank 1 and the second at bank 2; the seven hundreds are the signings'
-// exchange numbers.
-pub const FIRST_OF_E: u8 = 8;
-
-pub const SECOND_OF_E: u8 = 9;
-
-// The bank of a client run.
-pub fn bank_of(run: u8) -> u16 {
-    if run == SECOND_OF_E {
-        return 2;
-    }
-    1
-}
-
-// The bank of a client run where its lines tell it, in exercise E; else 0.
-pub fn told_bank(run: u8) -> u64 {
-    if run < FIRST_OF_E {
-        return 0;
-    }
-    bank_of(run) as u64
 }
 
 // What an upload run is told at begin, as its record has it: its edition, 1 for 2.4 and 0 for 2.5, and the order number
@@ -106,11 +80,10 @@ pub fn first_letter(run: u8) -> u8 {
 // line 2r - 1 and the replies to them over line 2r, and a line's seed is this number and its own.
 pub const SEED: u32 = 7;
 
-// A signing: the bank, the subscriber who signs, the order by its owner and its number in the owner's series, and the
-// exchange number whose nonce it has, as a client run has that of its own.
+// A signing: the subscriber who signs, the order by its owner and its number in the owner's series, and the exchange
+// number whose nonce it has, as a client run has that of its own.
 #[derive(Drop)]
 pub struct Signature {
-    pub bank: u64,
     pub subscriber: u64,
     pub owner: u64,
     pub number: u64,
@@ -120,51 +93,30 @@ pub struct Signature {
 // The exchange number of a signing is this and its own number.
 pub const SIGNINGS: u64 = 700;
 
-// The signing of exercise E, at bank 2; the bank of a signing where its lines tell it, in exercise E, else 0.
-pub const SIGNING_OF_E: u8 = 6;
-
-pub fn told_signing(n: u8) -> u64 {
-    if n == SIGNING_OF_E {
-        return 2;
-    }
-    0
-}
-
 // A signing, numbered from 1: of the owner, of another subscriber, of that one again, of an order that is not in the
-// book, and of a third subscriber with the second signing's nonce; and in exercise E of an order at bank 2.
+// book, and of a third subscriber with the second signing's nonce.
 pub fn signature_of(n: u8) -> Signature {
     let own = SIGNINGS + n as u64;
     match n {
         1 => Signature {
-            bank: 1,
             subscriber: 1,
             owner: 1,
             number: 0,
             nonce: own,
         },
         4 => Signature {
-            bank: 1,
             subscriber: 2,
             owner: 1,
             number: 2,
             nonce: own,
         },
         5 => Signature {
-            bank: 1,
             subscriber: 3,
             owner: 1,
             number: 0,
             nonce: SIGNINGS + 2,
         },
-        SIGNING_OF_E => Signature {
-            bank: 2,
-            subscriber: 1,
-            owner: 5,
-            number: 0,
-            nonce: own,
-        },
         _ => Signature {
-            bank: 1,
             subscriber: 2,
             owner: 1,
             number: 0,
@@ -174,7 +126,7 @@ pub fn signature_of(n: u8) -> Signature {
 }
 
 // The moves of exercise A, of the first day (A and half of B: a download is open, and a reply was lost), of A and B
-// together, of A to C, of A to D, and of all five.
+// together, of A to C, and of all four.
 pub const MOVES_A: u8 = 17;
 
 pub const MOVES_DAY: u8 = 52;
@@ -183,9 +135,7 @@ pub const MOVES_B: u8 = 79;
 
 pub const MOVES_C: u8 = MOVES_B + 2;
 
-pub const MOVES_D: u8 = MOVES_C + 10;
-
-pub const MOVES: u8 = MOVES_D + 20;
+pub const MOVES: u8 = MOVES_C + 10;
 
 // A move has four bytes: the letter of its record (M a file for a mailbox, U or D a run begins, F its request, R the
 // bank's reply, N no reply came, J the journal is handed to it, P the session is put away, T it is taken up, G a
@@ -240,8 +190,7 @@ pub fn move_at(i: u8) -> Move {
         T0  N5  F5  R5  F5  R5  F5  R5  \
         U6  F6  R6  F6c R6  F6x N6  F6x N6  F6x N6  F6x N6  F6x N6  F6x N6  F6lHR6x \
         J4  J6  \
-        G1  Q1  G2  Q2  G3  Q3  G4  Q4  G5  Q5  \
-        U8  F8  R8  F8  R8  F8  R8  U9  F9  R9  F9  R9  F9  R9x N9  F9  R9  J9  G6  Q6  ",
+        G1  Q1  G2  Q2  G3  Q3  G4  Q4  G5  Q5  ",
         i,
     )
 }

@@ -148,17 +148,13 @@ some_at : (n : ℕ) → present n ≡ 1 → 1 ≤ n
 some_at zero e = absurd (let z : ◌≡◌ {A = ℕ} 0 1 = e in omega arith)
 some_at (suc n) e = omega arith
 
--- where a tag stands, its content has some bytes
-pub read_some : (s : List ℕ) → is_form (form (parse s)) ≡ true → (t : ℕ) → has (parse s).tags t ≡ true
-    → 1 ≤ length (get_or (contents tag_count 0 s) t [])
-unfolding fields_of
-read_some s h t e =
-    let r : List (List ℕ) = contents tag_count 0 s in
-    let tags : (parse s).tags ≡ present_tags r = ap (λ (f : Fields). f.tags) (parsed-is s h) in
-    some_at (length (get_or r t []))
-    (sym (bit-present t r) ∙ bit_is (present_tags r) t true (sym (ap (λ (m : ℕ). has m t) tags) ∙ e))
-
--- and so have data
+-- where the tag of the data stands, there are some
 pub read-data : (s : List ℕ) → is_form (form (parse s)) ≡ true → has (parse s).tags data_tag ≡ true
     → 1 ≤ length (data_of s)
-read-data s h e = rw (data_is s) (read_some s h data_tag e)
+unfolding fields_of
+read-data s h e =
+    let r : List (List ℕ) = contents tag_count 0 s in
+    let tags : (parse s).tags ≡ present_tags r = ap (λ (f : Fields). f.tags) (parsed-is s h) in
+    let b : present (length (get_or r data_tag [])) ≡ 1 =
+    sym (bit-present data_tag r) ∙ bit_is (present_tags r) data_tag true (sym (ap (λ (m : ℕ). has m data_tag) tags) ∙ e) in
+    some_at (length (data_of s)) (ap (λ (l : List ℕ). present (length l)) (data_is s) ∙ b)

@@ -14,8 +14,7 @@ use borrow.Author.Tests.{leb-true, eqb-true, eqb-false, eq-eqb, ne_eqb, le-leb}
 use lib.Dec.{leb, eqb}
 use Rattle.frame_table.specs.declared.fields.Fields.{Fields}
 use Rattle.octets.specs.Bytes.{Bytes, number, bytes_of, field_bytes}
-use Rattle.frame_table.specs.Table.{tag_count, frame_limit, data_tag, bank_tag, width, has}
-use Rattle.frame_table.specs.Table.{row_fits, find_form, form_of, is_form}
+use Rattle.frame_table.specs.Table.{tag_count, frame_limit, data_tag, width, has, row_fits, find_form, form_of, is_form}
 use Rattle.frame_table.specs.Names.{form}
 use Rattle.frame_row.specs.Row.{
   well_formed,
@@ -143,39 +142,6 @@ row-again t (c ∷ r) h =
     let f = front-again t c (join (t + 1) r) (eqb (length c) 0) refl a.0 (size-join t (t + 1) r (omega arith)) in
     let i = row-again (t + 1) r a.1 in
     (rw (f.0, f.1, i.0), ap (behind (length r) (t + 1)) f.1 ∙ i.1)
-
--- ---- a row with bytes behind it
-
--- the last content of a row has some bytes
-data Ends : List (List ℕ) → Type 0 where
-  ends_last : {c : List ℕ} → (length c ≡ 0 → ⊥) → Ends (c ∷ [])
-  ends_more : {c : List ℕ} {r : List (List ℕ)} → Ends r → Ends (c ∷ r)
-
-ends_at : (k t : ℕ) (s : List ℕ) → (length (get_or (contents (suc k) t s) k []) ≡ 0 → ⊥) → Ends (contents (suc k) t s)
-unfolding contents
-ends_at zero t s n = ends_last n
-ends_at (suc k) t s n = ends_more (ends_at k (t + 1) (drop (field_size t s) s) n)
-
-size-before : (t u : ℕ) {r : List (List ℕ)} (x : List ℕ) → t < u → Ends r → field_size t (join u r ++ x) ≡ 0
-unfolding join
-size-before t u x h (ends_last {c} n) = rw (append-nil (piece u c), piece-some u c n) (size-other t u c x h)
-size-before t u x h (ends_more {c} {r} e) =
-    rw (append_assoc (piece u c) (join (u + 1) r) x)
-    (size-piece t u c (join (u + 1) r ++ x) (eqb (length c) 0) refl h (size-before t (u + 1) x (omega arith) e))
-
--- the tags of a row read no byte behind it
-row_before : (t : ℕ) {r : List (List ℕ)} (x : List ℕ) → row_formed t r ≡ true → Ends r
-    → behind (length r) t (join t r ++ x) ≡ x
-unfolding row_formed behind join
-row_before t x h (ends_last {c} n) =
-    let a = (and-true (formed t c) true h).0 in
-    rw (append-nil (piece t c), piece-some t c n) (own-rest t c x (rw (ne_eqb (length c) 0 n) at a))
-row_before t x h (ends_more {c} {r} e) =
-    let a = and-true (formed t c) (row_formed (t + 1) r) h in
-    let f = front-again t c (join (t + 1) r ++ x) (eqb (length c) 0) refl a.0
-    (size-before t (t + 1) x (omega arith) e) in
-    rw (append_assoc (piece t c) (join (t + 1) r) x)
-    (ap (behind (length r) (t + 1)) f.1 ∙ row_before (t + 1) x a.1 e)
 
 -- ---- bytes and their row
 
@@ -489,26 +455,15 @@ module _ (s : List ℕ) (h : is_form (form (parse s)) ≡ true) where
         let i = row-says f (data_of s) 0 r (omega (arith, n)) (bytes-again tag_count 0 s b).1 w in
         rw readable.is (rw n at i)
 
-    -- it is its row
-    row-whole : join 0 (contents tag_count 0 s) ≡ s
-    row-whole =
-        let r : List ℕ = join 0 (contents tag_count 0 s) in
-        sym (append-nil r) ∙ ap (λ (l : List ℕ). r ++ l) (sym readable.end) ∙ (bytes-again tag_count 0 s b).0
-
     pub frame_of-parse : frame_of (parse s) (data_of s) ≡ s
     unfolding frame_of
-    frame_of-parse = ap (join 0) parsed-says.0 ∙ row-whole
+    frame_of-parse =
+        let r : List ℕ = join 0 (contents tag_count 0 s) in
+        ap (join 0) parsed-says.0 ∙ sym (append-nil r) ∙ ap (λ (l : List ℕ). r ++ l) (sym readable.end)
+        ∙ (bytes-again tag_count 0 s b).0
 
     pub writable-parse : writable (parse s) (data_of s) ≡ true
     unfolding writable
     writable-parse =
         let n : length (frame_of (parse s) (data_of s)) ≤ frame_limit = omega (arith, ap length frame_of-parse, readable.most) in
         rw (h, parsed-says.1) (le-leb (length (frame_of (parse s) (data_of s))) frame_limit n)
-
--- a frame that ends with the last tag is the front of no other
-pub front-alone : (s x : List ℕ) → Bytes s → is_form (form (parse s)) ≡ true → is_form (form (parse (s ++ x))) ≡ true
-    → (length (get_or (contents tag_count 0 s) bank_tag []) ≡ 0 → ⊥) → x ≡ []
-front-alone s x b h k n =
-    let left : behind tag_count 0 (join 0 (contents tag_count 0 s) ++ x) ≡ x =
-    rw (length-contents tag_count 0 s) at (row_before 0 x (bytes-again tag_count 0 s b).1 (ends_at bank_tag 0 s n)) in
-    sym left ∙ ap (λ (l : List ℕ). behind tag_count 0 (l ++ x)) (row-whole s h b) ∙ (readable (s ++ x) k).end

@@ -5,7 +5,7 @@ use mathlib.Core.Bool.{Bool, true, false, cond}
 use mathlib.Core.Path.{◌≡◌, refl, sym, ap, ◌∙◌, subst}
 use native.Mathlib.Nat.{zero-add}
 use native.Mathlib.Omega.{arith}
-use lib.ListN.{length, take, drop, replicate, get_or-replicate, take-append-drop, length-drop}
+use lib.ListN.{length, take, replicate, get_or-replicate}
 use Rattle.frame_table.specs.declared.fields.Fields.{Fields}
 use Rattle.frame_table.specs.declared.table.Form.{Form}
 use Rattle.frame_table.specs.declared.table.Form.TheVariants.{NoForm}
@@ -29,7 +29,6 @@ use Rattle.frame_table.specs.Table.{
   return_code_tag,
   order_attribute_tag,
   version_tag,
-  bank_tag,
   width,
   values_of,
   in_range,
@@ -42,7 +41,7 @@ use Rattle.frame_table.specs.Table.{
   is_reply_form,
   is_form,
 }
-use Rattle.frame_table.specs.Names.{form, with, phase, timestamp, order_attribute, version}
+use Rattle.frame_table.specs.Names.{form, with, timestamp, order_attribute, version}
 use Rattle.frame_row.specs.Row.{spelled, listed, well_formed, data_of, high_of, low_of, piece, join}
 use Rattle.frame_reader.specs.Reader.{parse, read_as, read_request, read_reply}
 use Rattle.frame_table.specs.Names.{no_fields}
@@ -68,26 +67,10 @@ use Rattle.frame_writer.specs.Writer.{
   smallest_reply,
   segment_bytes,
 }
-use Rattle.octets.proofs.Numbers.{bytes_take}
 use Rattle.octets.proofs.Tests.{never}
-use Rattle.frame_table.proofs.Forms.{
-  form-tags,
-  request-has,
-  request-not-reply,
-  reply-not-request,
-  request-form,
-  reply-form,
-}
+use Rattle.frame_table.proofs.Forms.{request-not-reply, reply-not-request, request-form, reply-form}
 use Rattle.frame_writer.proofs.Loops.{field-writable}
-use Rattle.frame.proofs.RoundTrip.{
-  Sized,
-  parse-frame_of,
-  data_of-frame_of,
-  frame_of-parse,
-  writable-parse,
-  writable-at,
-  front-alone,
-}
+use Rattle.frame.proofs.RoundTrip.{Sized, parse-frame_of, data_of-frame_of, frame_of-parse, writable-parse, writable-at}
 use Rattle.frame.proofs.Lengths.{
   writable-parts,
   form-length,
@@ -101,7 +84,7 @@ use Rattle.frame.proofs.Lengths.{
   chosen-opened-size,
 }
 use Rattle.frame_writer.proofs.Written.{written-front}
-use Rattle.frame.proofs.Parsed.{number_of, Halves, InRow, field-in-row, read-halves, in-row, read_some, read-data}
+use Rattle.frame.proofs.Parsed.{number_of, Halves, InRow, field-in-row, read-halves, in-row, read-data}
 
 -- ---- what is written is read as the same fields and data
 
@@ -268,24 +251,6 @@ module _ (s : List ℕ) where
       unfolding read_reply
       reply-number = as_number is_reply_form refl reply-form s b h
 
--- reading 13.2, "A cut frame lacks field 12": no request is the front of another
-module _ (s : List ℕ) (b : Bytes s) (h : is_request_form (form (read_request s)) ≡ true) (n : ℕ) (k : n < length s) where
-  cut_at : (x : Bool) → is_request_form (form (read_request (take n s))) ≡ x → x ≡ false
-  cut_at false e = refl
-  cut_at true e =
-      let u = (request-parsed (take n s) e).1 in
-      let known = request-form (form (parse (take n s))) u in
-      let tags = form-tags (parse (take n s)).tags (phase (parse (take n s))) known in
-      let named = ap (λ (m : ℕ). has m bank_tag) tags ∙ (request-has (form (parse (take n s))) u).3 in
-      let some = read_some (take n s) known bank_tag named in
-      let whole = request-form (form (parse s)) (request-parsed s h).1 in
-      let none = front-alone (take n s) (drop n s) (bytes_take n s b) known (rw (take-append-drop n s) whole)
-      (λ z. omega arith) in
-      absurd (omega (arith, length-drop n s, ap length none))
-
-  pub cut-unreadable : is_request_form (form (read_request (take n s))) ≡ false
-  cut-unreadable = cut_at (is_request_form (form (read_request (take n s)))) refl
-
 -- the writer accepts a number only in the width and the range that the table says: else it gives number 1
 pub written-number : (f : Fields) (d : List ℕ) → writable f d ≡ true → (t : ℕ) → t < tag_count → (t ≡ data_tag → ⊥)
     → has f.tags t ≡ true → InRow t (number_of t f)
@@ -330,8 +295,8 @@ pub reply-excludes-request : (s : List ℕ) → is_reply_form (form (read_reply 
 unfolding read_request
 reply-excludes-request s h = rw (reply-not-request (form (parse s)) (reply-parsed s h).1)
 
--- ---- "Frame lengths: upload opening" 62, of card 13 the largest request 308, "largest reply 312"; of card 8, signing
--- 77, its reply 20; of card 11, an opening that brings its order number 76, its reply 39
+-- ---- "Frame lengths: upload opening" 57, "largest request 303, largest reply 312"; of card 8, signing 72, its reply 20;
+-- of card 11, an opening that brings its order number 71, its reply 39
 
 module _ (f : Fields) (d : List ℕ) (h : writable f d ≡ true) where
   -- a frame is as long as the tables say of its form
@@ -374,8 +339,8 @@ segment_data = replicate segment_bytes 0
 -- an upload transfer, and a download opened, with a whole segment
 unfoldable pub segment_request : Fields
 segment_request =
-    with bank_tag 1 (with data_tag 0 (with last_mark_tag 1 (with segment_tag 1 (with transaction_tag 0
-    (with exchange_tag 0 (with subscriber_tag 1 (with phase_tag 2 no_fields)))))))
+    with data_tag 0 (with last_mark_tag 1 (with segment_tag 1 (with transaction_tag 0
+    (with exchange_tag 0 (with subscriber_tag 1 (with phase_tag 2 no_fields))))))
 
 unfoldable pub segment_reply : Fields
 segment_reply =

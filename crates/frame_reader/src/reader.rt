@@ -133,7 +133,6 @@ fn parse(frame: &[u8]) -> Parsed
     let rest = read_field(rest, table::ORDER_ATTRIBUTE, &mut tags, &mut high, &mut low);
     let rest = read_field(rest, table::OWNER, &mut tags, &mut high, &mut low);
     let rest = read_field(rest, table::VERSION, &mut tags, &mut high, &mut low);
-    let rest = read_field(rest, table::BANK, &mut tags, &mut high, &mut low);
     let fields = fields_if(
         is_whole(frame.len(), rest.len()),
         Fields { tags, high, low },

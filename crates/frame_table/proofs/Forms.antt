@@ -17,7 +17,6 @@ use Rattle.frame_table.specs.Table.{
   phase_tag,
   subscriber_tag,
   exchange_tag,
-  bank_tag,
   has,
   request_row,
   reply_row,
@@ -104,33 +103,21 @@ module _ (m p : ℕ) (h : is_form (form_of m p) ≡ true) where
 
 request-row-has : (x : RequestForm)
     → (has (request_row x).1 phase_tag ≡ true) × (has (request_row x).1 subscriber_tag ≡ true) ×
-    (has (request_row x).1 exchange_tag ≡ true) × (has (request_row x).1 bank_tag ≡ true)
-request-row-has request.UploadOpening = (refl, refl, refl, refl)
-request-row-has request.DownloadOpening = (refl, refl, refl, refl)
-request-row-has request.UploadTransfer = (refl, refl, refl, refl)
-request-row-has request.DownloadTransfer = (refl, refl, refl, refl)
-request-row-has request.Receipt = (refl, refl, refl, refl)
-request-row-has request.Signing = (refl, refl, refl, refl)
-request-row-has request.ChosenOpening = (refl, refl, refl, refl)
+    (has (request_row x).1 exchange_tag ≡ true)
+request-row-has request.UploadOpening = (refl, refl, refl)
+request-row-has request.DownloadOpening = (refl, refl, refl)
+request-row-has request.UploadTransfer = (refl, refl, refl)
+request-row-has request.DownloadTransfer = (refl, refl, refl)
+request-row-has request.Receipt = (refl, refl, refl)
+request-row-has request.Signing = (refl, refl, refl)
+request-row-has request.ChosenOpening = (refl, refl, refl)
 
--- a phase, a subscriber, an exchange number and a bank
+-- a phase, a subscriber and an exchange number
 pub request-has : (x : Form) → is_request_form x ≡ true
-    → (has (tags_of x) phase_tag ≡ true) × (has (tags_of x) subscriber_tag ≡ true) ×
-    (has (tags_of x) exchange_tag ≡ true) × (has (tags_of x) bank_tag ≡ true)
+    → (has (tags_of x) phase_tag ≡ true) × (has (tags_of x) subscriber_tag ≡ true) × (has (tags_of x) exchange_tag ≡ true)
 request-has NoForm h = never h
 request-has (Request x) h = request-row-has x
 request-has (Reply x) h = never h
-
--- ---- no reply has a bank
-
-pub reply-bankless : (x : ReplyForm) → has (reply_row x) bank_tag ≡ false
-reply-bankless reply.UploadOpened = refl
-reply-bankless reply.DownloadOpened = refl
-reply-bankless reply.SegmentTaken = refl
-reply-bankless reply.DownloadSegment = refl
-reply-bankless reply.ReceiptAnswered = refl
-reply-bankless reply.Unreadable = refl
-reply-bankless reply.Refusal = refl
 
 -- ---- request forms and reply forms
 

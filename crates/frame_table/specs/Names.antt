@@ -21,7 +21,6 @@ use Rattle.frame_table.specs.Table.{
   order_attribute_tag,
   owner_tag,
   version_tag,
-  bank_tag,
   has,
   form_of,
 }
@@ -89,10 +88,6 @@ owner f = get_or f.low owner_tag 0
 -- card 11, "field 11 (4 bytes, H003)": its four bytes as a number
 abbrev pub version : Fields → ℕ
 version f = get_or f.low version_tag 0
-
--- card 13, "named by field 12"
-abbrev pub bank : Fields → ℕ
-bank f = get_or f.low bank_tag 0
 
 -- the form that the fields are of
 abbrev pub form : Fields → Form

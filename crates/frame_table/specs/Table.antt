@@ -1,4 +1,4 @@
--- Document 01, "The frame", and cards 8, 11 and 13: the fields by tag, and the forms as sets of tags.
+-- Document 01, "The frame", and cards 8 and 11: the fields by tag, and the forms as sets of tags.
 use Rattle.std.specs.Prelude.{ℕ, ◌+◌, ◌/◌, ◌%◌, ◌^◌, List, [], ◌∷◌, Bool, true, false, cond, ◌&&◌, ◌||◌, get_or, leb, eqb}
 use Rattle.frame_table.specs.declared.table.Characters.{Characters}
 use Rattle.frame_table.specs.declared.table.Characters.TheVariants.{Digits, CapitalsOrDigits}
@@ -32,7 +32,7 @@ last_time = 253402300799999
 
 -- how many tags there are, from 0 on
 abbrev pub tag_count : ℕ
-tag_count = 19
+tag_count = 18
 
 -- "Tags (hex)": 01 phase
 abbrev pub phase_tag : ℕ
@@ -102,10 +102,6 @@ owner_tag = 16
 abbrev pub version_tag : ℕ
 version_tag = 17
 
--- of card 13: 12 bank
-abbrev pub bank_tag : ℕ
-bank_tag = 18
-
 -- "attribute UZHNN": five characters, high byte first
 abbrev pub uzhnn : ℕ
 uzhnn = 0x555A484E4E
@@ -135,7 +131,6 @@ field_table =
     ∷ (5, Range uzhnn uzhnn)  -- "attribute UZHNN (0F, 5 bytes)": no other value
     ∷ (2, Any)  -- "owner (10, 2 bytes)"
     ∷ (4, Range h003 h003)  -- "field 11 (4 bytes, H003)": no other value
-    ∷ (2, Any)  -- card 13, "field 12 (2 bytes, 1 to 4)": any other is read, and refused with 091011
     ∷ []
 
 -- the row of a tag; no values where there is no such tag
@@ -167,40 +162,32 @@ tag_set (t ∷ ts) = 2 ^ t + tag_set ts
 abbrev pub has : ℕ → ℕ → Bool
 has m t = eqb (m / 2 ^ t % 2) 1
 
--- "Request forms": the phase and the tags of each, and of card 13 "field 12 (2 bytes, 1 to 4), last in every request"
+-- "Request forms": the phase and the tags of each
 abbrev pub request_row : RequestForm → ℕ × ℕ
 -- "upload opening (phase 1): 01 to 07"
-request_row UploadOpening = (
-  1,
-  tag_set (phase_tag ∷ subscriber_tag ∷ exchange_tag ∷ order_type_tag ∷ nonce_tag ∷ timestamp_tag ∷ segments_tag
-      ∷ bank_tag ∷ []),
-)
+request_row UploadOpening =
+    (1, tag_set (phase_tag ∷ subscriber_tag ∷ exchange_tag ∷ order_type_tag ∷ nonce_tag ∷ timestamp_tag ∷ segments_tag ∷ []))
 -- "download opening (phase 1): 01 to 06"
 request_row DownloadOpening =
-    (1, tag_set (phase_tag ∷ subscriber_tag ∷ exchange_tag ∷ order_type_tag ∷ nonce_tag ∷ timestamp_tag ∷ bank_tag ∷ []))
+    (1, tag_set (phase_tag ∷ subscriber_tag ∷ exchange_tag ∷ order_type_tag ∷ nonce_tag ∷ timestamp_tag ∷ []))
 -- "upload transfer (2): 01 02 03 08 09 0A 0B"
-request_row UploadTransfer = (
-  2,
-  tag_set (phase_tag ∷ subscriber_tag ∷ exchange_tag ∷ transaction_tag ∷ segment_tag ∷ last_mark_tag ∷ data_tag
-      ∷ bank_tag ∷ []),
-)
+request_row UploadTransfer =
+    (2, tag_set (phase_tag ∷ subscriber_tag ∷ exchange_tag ∷ transaction_tag ∷ segment_tag ∷ last_mark_tag ∷ data_tag ∷ []))
 -- "download transfer (2): 01 02 03 08 09"
-request_row DownloadTransfer =
-    (2, tag_set (phase_tag ∷ subscriber_tag ∷ exchange_tag ∷ transaction_tag ∷ segment_tag ∷ bank_tag ∷ []))
+request_row DownloadTransfer = (2, tag_set (phase_tag ∷ subscriber_tag ∷ exchange_tag ∷ transaction_tag ∷ segment_tag ∷ []))
 -- "receipt (3): 01 02 03 08 0C"
-request_row Receipt =
-    (3, tag_set (phase_tag ∷ subscriber_tag ∷ exchange_tag ∷ transaction_tag ∷ receipt_code_tag ∷ bank_tag ∷ []))
+request_row Receipt = (3, tag_set (phase_tag ∷ subscriber_tag ∷ exchange_tag ∷ transaction_tag ∷ receipt_code_tag ∷ []))
 -- card 8, "An opening of form 01 to 06, 0E, 0F, 10": phase 1
 request_row Signing = (
   1,
   tag_set (phase_tag ∷ subscriber_tag ∷ exchange_tag ∷ order_type_tag ∷ nonce_tag ∷ timestamp_tag ∷ order_number_tag
-      ∷ order_attribute_tag ∷ owner_tag ∷ bank_tag ∷ []),
+      ∷ order_attribute_tag ∷ owner_tag ∷ []),
 )
 -- card 11, "An upload opening with field 11 (4 bytes, H003) and 0E, besides 01 to 07": phase 1
 request_row ChosenOpening = (
   1,
   tag_set (phase_tag ∷ subscriber_tag ∷ exchange_tag ∷ order_type_tag ∷ nonce_tag ∷ timestamp_tag ∷ segments_tag
-      ∷ order_number_tag ∷ version_tag ∷ bank_tag ∷ []),
+      ∷ order_number_tag ∷ version_tag ∷ []),
 )
 
 -- "Reply forms": the tags of each

@@ -4,11 +4,11 @@ ghost use Rattle.frame_table.specs.Table.{tag_count, has};
 ghost use Rattle.frame_table.specs.Names.{no_fields};
 ghost use Rattle.frame_table.specs.Names.{phase, subscriber, exchange, order_type, nonce, timestamp, segments};
 ghost use Rattle.frame_table.specs.Names.{transaction, segment};
-ghost use Rattle.frame_table.specs.Names.{last_mark, receipt_code, return_code, order_number, owner, bank, form};
-ghost use Rattle.frame_table.specs.Names.{with_tag, with, with_wide, same_bits};
+ghost use Rattle.frame_table.specs.Names.{last_mark, receipt_code, return_code, order_number, owner, form, with_tag};
+ghost use Rattle.frame_table.specs.Names.{with, with_wide, same_bits};
 
 use crate::table::{
-    BANK, EXCHANGE, Form, LAST_MARK, NONCE, ORDER_NUMBER, ORDER_TYPE, OWNER, PHASE, RECEIPT_CODE,
+    EXCHANGE, Form, LAST_MARK, NONCE, ORDER_NUMBER, ORDER_TYPE, OWNER, PHASE, RECEIPT_CODE,
     RETURN_CODE, SEGMENT, SEGMENTS, SUBSCRIBER, TAG_COUNT, TIMESTAMP, TRANSACTION, form_of,
 };
 
@@ -161,12 +161,6 @@ impl Fields {
         ensures { result ≡ owner self }
     {
         self.low[OWNER]
-    }
-
-    pub fn bank(self) -> u64
-        ensures { result ≡ bank self }
-    {
-        self.low[BANK]
     }
 
     // The fields with this tag, of this number; unchanged where there is no such tag.

@@ -8,7 +8,7 @@ ghost use Rattle.frame_table.specs.declared.table.Form.TheVariants.{NoForm, Requ
 use octets::bytes::wide;
 
 // How many tags there are, from 0 on.
-pub const TAG_COUNT: usize = 19;
+pub const TAG_COUNT: usize = 18;
 
 // How many bytes a frame has at most.
 pub const FRAME_LIMIT: usize = 1024;
@@ -49,8 +49,6 @@ pub const ORDER_ATTRIBUTE: usize = 15;
 pub const OWNER: usize = 16;
 
 pub const VERSION: usize = 17;
-
-pub const BANK: usize = 18;
 
 // The one order attribute: five characters, high byte first.
 pub const UZHNN: u64 = 0x55_5A_48_4E_4E;
@@ -114,16 +112,14 @@ const UPLOAD_OPENING: u32 = 1 << PHASE
     | 1 << ORDER_TYPE
     | 1 << NONCE
     | 1 << TIMESTAMP
-    | 1 << SEGMENTS
-    | 1 << BANK;
+    | 1 << SEGMENTS;
 
 const DOWNLOAD_OPENING: u32 = 1 << PHASE
     | 1 << SUBSCRIBER
     | 1 << EXCHANGE
     | 1 << ORDER_TYPE
     | 1 << NONCE
-    | 1 << TIMESTAMP
-    | 1 << BANK;
+    | 1 << TIMESTAMP;
 
 const UPLOAD_TRANSFER: u32 = 1 << PHASE
     | 1 << SUBSCRIBER
@@ -131,22 +127,19 @@ const UPLOAD_TRANSFER: u32 = 1 << PHASE
     | 1 << TRANSACTION
     | 1 << SEGMENT
     | 1 << LAST_MARK
-    | 1 << DATA
-    | 1 << BANK;
+    | 1 << DATA;
 
 const DOWNLOAD_TRANSFER: u32 = 1 << PHASE
     | 1 << SUBSCRIBER
     | 1 << EXCHANGE
     | 1 << TRANSACTION
-    | 1 << SEGMENT
-    | 1 << BANK;
+    | 1 << SEGMENT;
 
 const RECEIPT: u32 = 1 << PHASE
     | 1 << SUBSCRIBER
     | 1 << EXCHANGE
     | 1 << TRANSACTION
-    | 1 << RECEIPT_CODE
-    | 1 << BANK;
+    | 1 << RECEIPT_CODE;
 
 const SIGNING: u32 = 1 << PHASE
     | 1 << SUBSCRIBER
@@ -156,8 +149,7 @@ const SIGNING: u32 = 1 << PHASE
     | 1 << TIMESTAMP
     | 1 << ORDER_NUMBER
     | 1 << ORDER_ATTRIBUTE
-    | 1 << OWNER
-    | 1 << BANK;
+    | 1 << OWNER;
 
 const CHOSEN_OPENING: u32 = 1 << PHASE
     | 1 << SUBSCRIBER
@@ -167,8 +159,7 @@ const CHOSEN_OPENING: u32 = 1 << PHASE
     | 1 << TIMESTAMP
     | 1 << SEGMENTS
     | 1 << ORDER_NUMBER
-    | 1 << VERSION
-    | 1 << BANK;
+    | 1 << VERSION;
 
 const UPLOAD_OPENED: u32 = 1 << PHASE
     | 1 << EXCHANGE
@@ -229,8 +220,7 @@ fn field_row(tag: usize) -> Field
         ORDER_NUMBER => Field(4, Values::Any), // 0E
         ORDER_ATTRIBUTE => Field(5, Values::Range(UZHNN, UZHNN)), // 0F
         OWNER => Field(2, Values::Any), // 10
-        VERSION => Field(4, Values::Range(H003, H003)), // 11
-        _ => Field(2, Values::Any), // 12 bank
+        _ => Field(4, Values::Range(H003, H003)), // 11 protocol version
     }
 }
 

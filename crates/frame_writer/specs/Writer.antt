@@ -85,33 +85,33 @@ abbrev pub written_number : Written → ℕ
 written_number (Length n) = 0
 written_number Refused = numbers.wrong_length
 
--- "Frame lengths: upload opening" 62, of card 13 "every request 5 longer"
+-- "Frame lengths: upload opening" 57
 abbrev pub upload_opening_length : ℕ
-upload_opening_length = 62
+upload_opening_length = 57
 
--- and, of card 3, download opening 57
+-- and, of card 3, download opening 52
 abbrev pub download_opening_length : ℕ
-download_opening_length = 57
+download_opening_length = 52
 
--- and, of card 8, signing 77
+-- and, of card 8, signing 72
 abbrev pub signing_length : ℕ
-signing_length = 77
+signing_length = 72
 
 -- its reply 20: the form "any other refusal 01 03 0D"
 abbrev pub signed_length : ℕ
 signed_length = 20
 
--- of card 11, an opening that brings its order number 76
+-- of card 11, an opening that brings its order number 71
 abbrev pub chosen_opening_length : ℕ
-chosen_opening_length = 76
+chosen_opening_length = 71
 
 -- its reply 39: the form "receipt answered 01 03 08 0D"
 abbrev pub chosen_opened_length : ℕ
 chosen_opened_length = 39
 
--- card 13, "Client request buffers are at least 308 bytes": the largest request, with the 256 data bytes of a segment
+-- "largest request 303", with the 256 data bytes of a whole segment; "request buffer under 303"
 abbrev pub request_room : ℕ
-request_room = 308
+request_room = 303
 
 -- "largest reply 312", likewise; "a reply buffer of at least 312 bytes"
 abbrev pub reply_room : ℕ

@@ -106,7 +106,7 @@ fn holds_list(image: &[u8], numbers: &[u64]) -> bool
 }
 
 // Whether the bytes are an admitted image; then its numbers are read.
-pub fn read_admitted(image: &[u8], numbers: &mut [u64]) -> bool
+fn read_admitted(image: &[u8], numbers: &mut [u64]) -> bool
     requires { length numbers.old ≡ number_count }
     ensures { (result ≡ is_admitted_image image.now)
         × (result ≡ true → numbers.new ≡ numbers_from image.now) }

@@ -1,5 +1,4 @@
--- Laws of the calls of an input: enough calls are all of them, and an input in parts is the input whole. Assumes
--- nothing.
+-- Laws of the calls of an input: enough calls are all of them, and an input in parts is the input whole. Assumes nothing.
 use Prim.Native.Nat.{ℕ, zero, suc, ◌+◌, ◌-◌, ◌*◌, ◌≤◌, ◌<◌}
 use mathlib.Core.Bool.{Bool, true, false}
 use mathlib.Core.List.{List, [], ◌++◌, append_assoc}
@@ -159,4 +158,4 @@ read-parts s a b =
     let t = with_more s a in
     let e = append_assoc s.rest a b in
     sym (read_more b (length t.rest) t)
-    ∙ ap (λ (l : List ℕ). calls_of (record { lent = s.lent; calls = s.calls; rest = l })) e
+    ∙ ap (λ (l : List ℕ). calls_of (record { lent = s.lent; buffer = s.buffer; calls = s.calls; rest = l })) e

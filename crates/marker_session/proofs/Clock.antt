@@ -3,7 +3,7 @@
 use Prim.Native.Nat.{ℕ, ◌≤◌}
 use mathlib.Core.Bool.{Bool, true, false}
 use mathlib.Core.List.{List}
-use mathlib.Core.Path.{◌≡◌, refl, ap, ◌∙◌}
+use mathlib.Core.Path.{◌≡◌, refl, sym, ap, ◌∙◌}
 use native.Mathlib.Omega.{arith}
 use lib.ListN.{length, replicate}
 use Rattle.frame_table.specs.declared.fields.Fields.{Fields}
@@ -27,12 +27,14 @@ use Rattle.bank_verdicts.specs.declared.verdict.Verdict.TheVariants as verdict
 use Rattle.bank_verdicts.specs.Judgement.{judge}
 use Rattle.bank_steps.specs.Lent.{Lent, state_of}
 use Rattle.bank_steps.specs.Steps.{carry_out}
+use Rattle.bank.specs.declared.call.FrameAnswer.TheVariants.{Reply}
 use Rattle.bank.specs.Call.{context_of, FrameInput, respond, lent_right, frame_call}
 use Rattle.bank.specs.Journal.{clock_by}
-use Rattle.bank.specs.Lent.{lent_frame_call}
+use Rattle.bank.specs.Lent.{LentFrameCall, lent_frame_call}
 use Rattle.bank.proofs.Kept.{frame-sound, frame-state}
+use Rattle.bank.proofs.Lent.{lent-frame}
 use Rattle.bank.proofs.Right.{right-told}
-use Rattle.marker_session.specs.Banks.{Clocked}
+use Rattle.marker_session.specs.Marking.{MarkerState, input_of, call_of, called, offset_clock, Clocked}
 
 -- "beyond clock and drops only what is named changes": no verdict moves the clock
 carried-clock : (v : Verdict) (w : BankState) (q : Fields) (d : List ℕ) → (carry_out v w q d).bank.clock ≡ w.bank.clock
@@ -64,6 +66,13 @@ module _ (w : BankState) (a : FrameInput) where
       rw h
       (carried-clock (judge (context_of a) v.bank q (length d)) v q d ∙ (advanced-at-clock a.time w).clock)
 
+  -- an answered call is one that passes them
+  answered-clock : (b : Bool) → lent_right w a ≡ b → (n : ℕ) → (frame_call w a).answer ≡ Reply n
+      → (frame_call w a).bank_state.bank.clock ≡ clock_by w a
+  unfolding frame_call
+  answered-clock true e n h = right-clock e
+  answered-clock false e n h = let z : ◌≡◌ {A = ℕ} 0 1 = cc in absurd (omega arith)
+
   clock-most : (b : Bool) → lent_right w a ≡ b → w.bank.clock ≤ last_time
       → (frame_call w a).bank_state.bank.clock ≤ last_time
   unfolding frame_call
@@ -76,8 +85,11 @@ module _ (m : Lent) (a : FrameInput) (k : Clocked m.rows) where
   left-clock = ap (λ (w : BankState). w.bank.clock) (frame-state m a k.sound)
 
   -- "A call first sets the clock to the larger of its old value and the time given"
-  pub clock-set : lent_right (state_of m) a ≡ true → (bank_of (lent_frame_call m a).lent.rows).clock ≡ clock_by (state_of m) a
-  clock-set h = left-clock ∙ right-clock (state_of m) a h
+  pub clock-set : (n : ℕ) → (lent_frame_call m a).answer ≡ Reply n
+      → (bank_of (lent_frame_call m a).lent.rows).clock ≡ clock_by (state_of m) a
+  clock-set n h =
+      let told = ap (λ (c : LentFrameCall). c.answer) (lent-frame m a k.sound) in
+      left-clock ∙ answered-clock (state_of m) a (lent_right (state_of m) a) refl n (sym told ∙ h)
 
   pub clocked-next : Clocked (lent_frame_call m a).lent.rows
   clocked-next = record {
@@ -85,7 +97,18 @@ module _ (m : Lent) (a : FrameInput) (k : Clocked m.rows) where
     in_time = rw left-clock (clock-most (state_of m) a (lent_right (state_of m) a) refl k.in_time);
   }
 
+-- the same of a call told by an equation
+pub left-clocked : (m : Lent) (a : FrameInput) → Clocked m.rows → (c : LentFrameCall) → c ≡ lent_frame_call m a
+    → Clocked c.lent.rows
+left-clocked m a k c e = rw e (clocked-next m a k)
+
 -- a fresh bank's rows
 pub clocked-fresh : Clocked (replicate state_size 0)
 unfolding fresh
 clocked-fresh = record { sound = zeros-sound; in_time = rw fresh-rows (omega arith) }
+
+-- the clock of an offset is the one that the call leaves
+pub offset-clock : (s : MarkerState) → Clocked s.lent.rows → (n : ℕ) → (call_of s).answer ≡ Reply n
+    → offset_clock s ≡ (bank_of (called s).lent.rows).clock
+unfolding call_of called
+offset-clock s k n h = sym (clock-set s.lent (input_of s) k n h)

@@ -5,7 +5,7 @@ use mathlib.Core.List.{List, [], ◌++◌, append_assoc, append-nil}
 use mathlib.Core.Path.{◌≡◌, refl, sym, ap, ◌∙◌}
 use native.Mathlib.Omega.{arith}
 use lib.Dec.{ltb}
-use lib.ListN.{length, drop}
+use lib.ListN.{length, drop, replicate}
 use lib.Seq.{drop-drop}
 use native.Mathlib.Nat.{add_assoc}
 use borrow.Author.Tests.{lt-ltb}
@@ -13,67 +13,76 @@ use Rattle.frame_table.specs.declared.fields.Fields.{Fields}
 use Rattle.frame_reader.specs.Reader.{read_request}
 use Rattle.print.specs.Text.{Put}
 use Rattle.print.proofs.Texts.{put-length, put_then}
+use Rattle.bank_state.specs.Limits.{id_bytes}
+use Rattle.bank_rows.specs.State.{bank_of}
+use Rattle.bank.specs.declared.call.FrameAnswer.TheVariants.{Reply}
+use Rattle.bank.specs.Call.{frame_input}
 use Rattle.bank_steps.specs.Lent.{Lent}
-use Rattle.marker_session.specs.declared.call.Called.{Called}
+use Rattle.bank.specs.Lent.{LentFrameCall, lent_frame_call}
 use Rattle.marker_session.specs.declared.mark.Marked.{Marked}
-use Rattle.marker_session.specs.Lines.{line_room, head_bytes, time_of, size_of, frame_in, coded_line}
-use Rattle.marker_session.specs.Comes.{Comes}
-use Rattle.marker_session.specs.Marking.{MarkerState, marker_state, is_ready, call_of, called, called_line}
-use Rattle.marker_session.specs.Marking.{calls_to, lines_to, lines_in}
-use Rattle.marker_session.specs.Marking.{state_of, Print, print_of, marked_next, marked_all}
+use Rattle.marker_session.specs.Lines.{line_room, head_bytes, time_of, size_of, frame_in, line_of, coded_line}
+use Rattle.marker_session.specs.Marking.{MarkerState, marker_state, is_ready, call_of, called, called_line, calls_to, lines_to, lines_in}
+use Rattle.marker_session.specs.Marking.{state_of, Print, print_of, marked_next, marked_all, offset_clock, Clocked}
+use Rattle.marker_session.proofs.Clock.{offset-clock, left-clocked}
 use Rattle.marker_session.proofs.Calls.{calls-turn, lines-turn, calls-none, lines_none}
-use Rattle.marker_session.proofs.Texts.{line-most, coded-line}
+use Rattle.marker_session.proofs.Texts.{line-most, coded-line, call-code}
 
 line-fits : (s : MarkerState) → length (called_line s) ≤ line_room
 unfolding called_line
 line-fits s = line-most _ _ _ _ _
 
 -- one call and its line: what its parts say, put together
-module _ (input : List ℕ) (memory : Lent) (output : List ℕ) (m : Marked) where
+module _ (input : List ℕ) (memory : Lent) (buffer output : List ℕ) (m : Marked) where
   abbrev here : MarkerState
-  here = state_of m input memory
+  here = state_of m input memory buffer
 
   pub marked-call : (rest : List ℕ) → rest ≡ drop m.used input → (time : ℕ) → time ≡ time_of rest
       → (frame : List ℕ) → frame ≡ frame_in rest → (size : ℕ) → size ≡ size_of rest
-      → (c : Called) (left : Lent) → Comes memory time frame c left
+      → (k : LentFrameCall) → k ≡ lent_frame_call memory (frame_input time (replicate id_bytes 0) frame buffer)
+      → Clocked memory.rows → (clock : ℕ) → clock ≡ (bank_of k.lent.rows).clock
       → (q : Fields) → q ≡ read_request frame → (output' : List ℕ) (written : ℕ)
-      → Put output m.written (coded_line (m.calls + 1) c q) output' written
+      → Put output m.written (coded_line (m.calls + 1) k.answer k.code q clock) output' written
       → ◌≡◌ {A = Print} (record {
-        state = marker_state (m.calls + 1) (drop (m.used + head_bytes + size) input) left;
+        state = marker_state (m.calls + 1) (drop (m.used + head_bytes + size) input) k.lent k.buffer;
         output = output';
         written = written;
-      }) (marked_next m.written here output)
+      }) (marked_next m.written here output) × Clocked k.lent.rows
   unfolding called called_line call_of
-  marked-call rest er time et frame ef size es c left comes q eq output' written put =
-      let timed : time ≡ time_of (drop m.used input) = et ∙ ap time_of er in
+  marked-call rest er time et frame ef size es k e timed clock ec q eq output' written put =
+      let is : k ≡ call_of here = e ∙ rw (et, ef, er) in
       let brought : frame ≡ frame_in (drop m.used input) = ef ∙ ap frame_in er in
-      let memory-left : left ≡ (call_of here).lent = comes.memory ∙ rw (timed, brought) in
-      let line : coded_line (m.calls + 1) c q ≡ called_line here
-      = ap (coded_line (m.calls + 1) c) eq ∙ coded-line (m.calls + 1) comes ∙ rw (timed, brought) in
+      let kept : (n : ℕ) → k.answer ≡ Reply n → clock ≡ offset_clock here =
+      λ n h. ec ∙ ap (λ (x : LentFrameCall). (bank_of x.lent.rows).clock) is
+      ∙ sym (offset-clock here timed n (ap (λ (x : LentFrameCall). x.answer) (sym is) ∙ h)) in
+      let line : coded_line (m.calls + 1) k.answer k.code q clock ≡ called_line here
+      = ap (λ (f : Fields). coded_line (m.calls + 1) k.answer k.code f clock) eq
+      ∙ coded-line (m.calls + 1) k.answer k.buffer k.code frame (call-code memory _ k e) kept
+      ∙ ap (λ (x : LentFrameCall). line_of (m.calls + 1) x.answer x.buffer frame (offset_clock here)) is
+      ∙ ap (λ (l : List ℕ). line_of (m.calls + 1) (call_of here).answer (call_of here).buffer l (offset_clock here))
+      brought in
       let said : size ≡ size_of (drop m.used input) = es ∙ ap size_of er in
-      rw (put.bytes, put.place, line, memory-left, said, drop-drop, add_assoc)
+      (rw (put.bytes, put.place, line, is, said, drop-drop, add_assoc), left-clocked memory _ timed k e)
 
 -- marking from s into the output old: so many lines are left, and the text is written
-pub record Marking (s : MarkerState) (input old : List ℕ) (left : ℕ) (m : Marked) (memory : Lent) (output : List ℕ) :
-    Type 0 where
+pub record Marking (s : MarkerState) (input old : List ℕ) (left : ℕ) (m : Marked) (memory : Lent) (buffer output : List ℕ) : Type 0 where
   pub text : List ℕ
-  pub calls : calls_to (lines_in (length old)) s ≡ calls_to left (state_of m input memory)
-  pub lines : lines_to (lines_in (length old)) s ≡ text ++ lines_to left (state_of m input memory)
+  pub calls : calls_to (lines_in (length old)) s ≡ calls_to left (state_of m input memory buffer)
+  pub lines : lines_to (lines_in (length old)) s ≡ text ++ lines_to left (state_of m input memory buffer)
   pub put : Put old 0 text output m.written
   pub room : m.written + left * line_room ≤ length old
 
-module _ (s : MarkerState) (input old : List ℕ) (m : Marked) (memory : Lent) (output : List ℕ) where
+module _ (s : MarkerState) (input old : List ℕ) (m : Marked) (memory : Lent) (buffer output : List ℕ) where
   abbrev now : MarkerState
-  now = state_of m input memory
+  now = state_of m input memory buffer
 
-  pub marking-next : (left : ℕ) → Marking s input old left m memory output
+  pub marking-next : (left : ℕ) → Marking s input old left m memory buffer output
       → 0 < left → is_ready m.calls (drop m.used input) ≡ true
-      → (m' : Marked) (memory' : Lent) (output' : List ℕ)
-      → print_of m' input memory' output' ≡ marked_next m.written now output
-      → Marking s input old (left - 1) m' memory' output'
-  marking-next zero k h e m' memory' output' p = absurd (omega arith)
-  marking-next (suc n) k h e m' memory' output' p =
-      let there : called now ≡ state_of m' input memory' = ap (λ (x : Print). x.state) (sym p) in
+      → (m' : Marked) (memory' : Lent) (buffer' output' : List ℕ)
+      → print_of m' input memory' buffer' output' ≡ marked_next m.written now output
+      → Marking s input old (left - 1) m' memory' buffer' output'
+  marking-next zero k h e m' memory' buffer' output' p = absurd (omega arith)
+  marking-next (suc n) k h e m' memory' buffer' output' p =
+      let there : called now ≡ state_of m' input memory' buffer' = ap (λ (x : Print). x.state) (sym p) in
       let z : suc n - 1 ≡ n = omega arith in
       let fit = line-fits now in
       let place = ap (λ (x : Print). x.written) p in
@@ -90,14 +99,14 @@ module _ (s : MarkerState) (input old : List ℕ) (m : Marked) (memory : Lent) (
         room = omega (arith, k.room);
       }
 
-  ended : (left : ℕ) → Marking s input old left m memory output → calls_to left now ≡ now → lines_to left now ≡ []
-      → print_of m input memory output ≡ marked_all s old
+  ended : (left : ℕ) → Marking s input old left m memory buffer output → calls_to left now ≡ now → lines_to left now ≡ []
+      → print_of m input memory buffer output ≡ marked_all s old
   ended left k c l =
       rw (k.calls ∙ c, k.lines ∙ ap (λ (x : List ℕ). k.text ++ x) l ∙ append-nil k.text, k.put.place, k.put.bytes)
 
-  pub marking-end : (left : ℕ) → Marking s input old left m memory output
+  pub marking-end : (left : ℕ) → Marking s input old left m memory buffer output
       → (ltb 0 left && is_ready m.calls (drop m.used input)) ≡ false
-      → print_of m input memory output ≡ marked_all s old
+      → print_of m input memory buffer output ≡ marked_all s old
   unfolding calls_to lines_to
   marking-end zero k e = ended zero k refl refl
   marking-end (suc n) k e =

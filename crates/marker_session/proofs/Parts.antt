@@ -3,10 +3,11 @@ use Prim.Native.Nat.{ℕ, ◌+◌, ◌-◌, ◌≤◌}
 use mathlib.Core.List.{List, [], ◌++◌}
 use mathlib.Core.Path.{◌≡◌, sym, ap, ◌∙◌}
 use native.Mathlib.Omega.{arith}
-use lib.ListN.{length, take, drop, length-take, take-append-drop}
+use lib.ListN.{length, take, drop, replicate, length-take, take-append-drop}
 use lib.Seq.{take-append_seam, take-take}
 use Rattle.octets.specs.Bytes.{overwrite}
 use Rattle.octets.proofs.Numbers.{length-overwrite}
+use Rattle.bank_state.specs.Limits.{reply_room}
 use Rattle.bank_steps.specs.Lent.{Lent}
 use Rattle.marker_session.specs.declared.mark.Marked.{Marked}
 use Rattle.marker_session.specs.declared.session.Reading.{Reading}
@@ -21,23 +22,23 @@ unfolding overwrite
 take-overwritten d xs = take-append_seam xs (drop (0 + length xs) d)
 
 -- nothing is read yet
-pub reads-begin : (t : Reading) (input : List ℕ) (memory : Lent) → t.calls ≡ 0 → t.held ≡ 0
-    → ReadFrom (started_with memory) t input memory
+pub reads-begin : (t : Reading) (input : List ℕ) (memory : Lent) (buffer : List ℕ) → t.calls ≡ 0 → t.held ≡ 0
+    → ReadFrom (started_with memory buffer) t input memory buffer
 unfolding read_on calls_of calls_to
-reads-begin t input memory c h = record { part = []; result = rw (c, h); held = omega arith }
+reads-begin t input memory buffer c h = record { part = []; result = rw (c, h); held = omega arith }
 
 -- one read behind others
-pub reads-next : (s : MarkerState) (t : Reading) (input : List ℕ) (memory : Lent) (t' : Reading) (input' : List ℕ)
-    (memory' : Lent) → ReadFrom s t input memory → ReadFrom (reading_of t input memory) t' input' memory'
-    → ReadFrom s t' input' memory'
-reads-next s t input memory t' input' memory' k l = record {
+pub reads-next : (s : MarkerState) (t : Reading) (input : List ℕ) (memory : Lent) (buffer : List ℕ) (t' : Reading) (input' : List ℕ) (memory' : Lent) (buffer' : List ℕ)
+    → ReadFrom s t input memory buffer → ReadFrom (reading_of t input memory buffer) t' input' memory' buffer'
+    → ReadFrom s t' input' memory' buffer'
+reads-next s t input memory buffer t' input' memory' buffer' k l = record {
   part = k.part ++ l.part;
   result = l.result ∙ ap (λ (x : MarkerState). read_on x l.part) k.result ∙ read-parts s k.part l.part;
   held = l.held;
 }
 
 -- one read: n bytes came into the input, which was marked up to there
-module _ (t : Reading) (input : List ℕ) (memory : Lent) (output came : List ℕ) (n : ℕ)
+module _ (t : Reading) (input : List ℕ) (memory : Lent) (buffer output : List ℕ) (came : List ℕ) (n : ℕ)
     (same : length came ≡ length input) (fits : t.held ≤ length input) (has_room : HasRoom input output)
     (count : n ≤ length input - t.held) (front : take t.held came ≡ take t.held input) where
   abbrev all : List ℕ
@@ -47,26 +48,26 @@ module _ (t : Reading) (input : List ℕ) (memory : Lent) (output came : List �
   part = drop t.held all
 
   abbrev now : MarkerState
-  now = marker_state t.calls all memory
+  now = marker_state t.calls all memory buffer
 
   parts : take t.held input ++ part ≡ all
   parts =
       let e : take t.held all ≡ take t.held input = take-take t.held (t.held + n) came (omega arith) ∙ front in
       ap (λ (l : List ℕ). l ++ part) (sym e) ∙ take-append-drop t.held all
 
-  read_all : calls_to (lines_in (length output)) now ≡ read_on (reading_of t input memory) part
+  read_all : calls_to (lines_in (length output)) now ≡ read_on (reading_of t input memory buffer) part
   unfolding read_on
   read_all =
       let h : length all ≤ length came = simp length-take (omega arith) in
       calls-all (lines_in (length output)) now (omega arith)
-      ∙ ap (λ (l : List ℕ). calls_of (marker_state t.calls l memory)) (sym parts)
+      ∙ ap (λ (l : List ℕ). calls_of (marker_state t.calls l memory buffer)) (sym parts)
 
-  pub read-part : (m : Marked) (memory' : Lent) (output' : List ℕ)
-      → print_of m all memory' output' ≡ marked_all now output
+  pub read-part : (m : Marked) (memory' : Lent) (buffer' output' : List ℕ)
+      → print_of m all memory' buffer' output' ≡ marked_all now output
       → (t' : Reading) (input' : List ℕ) → t'.calls ≡ m.calls
       → (input' ≡ overwrite came 0 (drop m.used all)) × (t'.held ≡ length (drop m.used all))
-      → ReadFrom (reading_of t input memory) t' input' memory'
-  read-part m memory' output' e t' input' c k =
+      → ReadFrom (reading_of t input memory buffer) t' input' memory' buffer'
+  read-part m memory' buffer' output' e t' input' c k =
       let left = kept came m.used (t.held + n) (omega arith) in
       let size : length left ≤ length came = omega (arith, length-kept came m.used (t.held + n) (omega arith)) in
       record {
@@ -76,11 +77,12 @@ module _ (t : Reading) (input : List ℕ) (memory : Lent) (output came : List �
       }
 
 -- the session's memory begins as zeros
-pub session-of : (t : Reading) (input : List ℕ) (memory : Lent) → ReadFrom (started_with fresh_memory) t input memory
+pub session-of : (t : Reading) (input : List ℕ) (memory : Lent) (buffer : List ℕ)
+    → ReadFrom (started_with fresh_memory (replicate reply_room 0)) t input memory buffer
     → SessionOf memory.rows t.calls
 unfolding session
-session-of t input memory k = record {
+session-of t input memory buffer k = record {
   input = k.part;
-  numbers = ap (λ (x : MarkerState). x.lent.rows) k.result;
+  bank = ap (λ (x : MarkerState). x.lent.rows) k.result;
   count = ap (λ (x : MarkerState). x.calls) k.result;
 }

@@ -1,6 +1,4 @@
 -- The definitions of the marker: lines, calls, the session.
 pub mod Lines
-pub mod Banks
-pub mod Comes
 pub mod Marking
 pub mod Session

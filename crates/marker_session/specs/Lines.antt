@@ -1,17 +1,15 @@
--- "The marker's print": a record of the input, and the line of a call. Four books follow (`print`, `Book`).
+-- "The marker's print": a record of the input, and the line of a call. The book follows (`print`, `Book`).
 use Rattle.std.specs.Prelude.{ℕ, ◌+◌, Bool, true, false, ◌&&◌, List, [], ◌∷◌, ◌++◌, leb, length, take, drop}
 use Rattle.octets.specs.Bytes.{number}
 use Rattle.frame_table.specs.Table.{timestamp_tag, width}
-use Rattle.frame_table.specs.Names.{bank, return_code}
+use Rattle.frame_table.specs.Names.{return_code}
 use Rattle.frame_reader.specs.Reader.{read_request, read_reply}
 use Rattle.print.specs.Text.{ascii, max_digits, code_digits, code_text, decimal, space, newline, column}
 use Rattle.bank.specs.declared.call.FrameAnswer.{FrameAnswer}
 use Rattle.bank.specs.declared.call.FrameAnswer.TheVariants.{Reply, WrongLength}
 use Rattle.bank.specs.Call.{frame_number}
 use Rattle.frame_table.specs.declared.fields.Fields.{Fields}
-use Rattle.banks.specs.Banks.{is_bank}
 use Rattle.marker_column.specs.Offset.{request_offset, offset_room}
-use Rattle.marker_session.specs.declared.call.Called.{Called}
 
 -- "records from standard input: time .., frame length (2), frame"; the time has the bytes of a timestamp (card 3: "8
 -- bytes of milliseconds, as .. the marker's input"); s is the input from the record on
@@ -51,12 +49,9 @@ abbrev pub is_answered : FrameAnswer → Bool
 is_answered (Reply n) = true
 is_answered WrongLength = false
 
--- the third column of a call that brought this frame and set this clock of the bank that it names: "091011 has offset
--- `-`; all other readable openings answered by a frame show timestamp minus the clock of the bank that they name"
+-- the third column of a call that brought this frame and set this clock
 abbrev pub offset_text : FrameAnswer → List ℕ → ℕ → List ℕ
-offset_text a frame clock =
-    let q = read_request frame in
-    request_offset (is_answered a && is_bank (bank q)) q clock
+offset_text a frame clock = request_offset (is_answered a) (read_request frame) clock
 
 -- "Calls count from 1": the line of call n, which brought this frame and set this clock; the offset stands "in a third
 -- column "offset" behind the code"
@@ -64,16 +59,14 @@ unfoldable pub line_of : ℕ → FrameAnswer → List ℕ → List ℕ → ℕ �
 line_of n a buffer frame clock =
     column n space ++ (answer_text a buffer ++ (space ∷ offset_text a frame clock ++ (newline ∷ [])))
 
--- the same text and line, from what a call comes to and the request
-abbrev pub coded_text : Bool → ℕ → List ℕ
-coded_text true code = code_text code
-coded_text false code = decimal (frame_number WrongLength)
+-- the same text and line, from the return code of the reply and the request
+abbrev pub coded_text : FrameAnswer → ℕ → List ℕ
+coded_text (Reply n) code = code_text code
+coded_text WrongLength code = decimal (frame_number WrongLength)
 
-unfoldable pub coded_line : ℕ → Called → Fields → List ℕ
-coded_line n c q =
-    column n space
-    ++ (coded_text c.answered c.code
-    ++ (space ∷ request_offset (c.named && c.answered) q c.clock ++ (newline ∷ [])))
+unfoldable pub coded_line : ℕ → FrameAnswer → ℕ → Fields → ℕ → List ℕ
+coded_line n a code q clock =
+    column n space ++ (coded_text a code ++ (space ∷ request_offset (is_answered a) q clock ++ (newline ∷ [])))
 
 -- the most bytes that a line takes: a number, a space, a return code, a space, an offset, a newline
 abbrev pub line_room : ℕ

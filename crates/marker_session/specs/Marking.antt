@@ -1,21 +1,28 @@
--- "The marker's print": the calls of the records of an input on four banks, one after the other, and their lines.
-use Rattle.std.specs.Prelude.{ℕ, zero, suc, ◌+◌, ◌/◌, Bool, cond, ◌&&◌, List, [], ◌++◌, ltb, length, drop}
+-- "The marker's print": the calls of the records of an input, one after the other, and their lines. "the lent ID
+-- bytes are 0"
+use Rattle.std.specs.Prelude.{ℕ, zero, suc, ◌+◌, ◌/◌, ◌≤◌, Bool, true, cond, ◌&&◌, List, [], ◌++◌, ◌≡◌, ltb, length, drop, replicate}
 use Rattle.octets.specs.Bytes.{overwrite}
-use Rattle.frame_reader.specs.Reader.{read_request}
+use Rattle.frame_table.specs.Table.{last_time}
+use Rattle.bank_state.specs.Limits.{id_bytes}
+use Rattle.bank_rows.specs.State.{bank_of}
+use Rattle.bank_sound.specs.Sound.{is_sound}
+use Rattle.bank_steps.specs.Lent as memory
 use Rattle.bank_steps.specs.Lent.{Lent}
-use Rattle.bank.specs.Lent.{LentFrameCall}
+use Rattle.bank.specs.Call.{FrameInput, frame_input}
+use Rattle.bank.specs.Journal.{clock_by}
+use Rattle.bank.specs.Lent.{LentFrameCall, lent_frame_call}
 use Rattle.marker_session.specs.declared.mark.Marked.{Marked}
 use Rattle.marker_session.specs.Lines.{head_bytes, time_of, size_of, frame_in, is_whole, line_of, line_room}
-use Rattle.marker_session.specs.Banks.{clock_for, banks_call}
 
--- between two calls: the memory lent to the banks, the calls so far, the input that is left
+-- between two calls: the memory lent to the bank, the reply buffer, the calls so far, the input that is left
 pub record MarkerState : Type 0 where
   pub lent : Lent
+  pub buffer : List ℕ
   pub calls : ℕ
   pub rest : List ℕ
 
-abbrev pub marker_state : ℕ → List ℕ → Lent → MarkerState
-marker_state calls rest m = record { lent = m; calls = calls; rest = rest }
+abbrev pub marker_state : ℕ → List ℕ → Lent → List ℕ → MarkerState
+marker_state calls rest m buffer = record { lent = m; buffer = buffer; calls = calls; rest = rest }
 
 -- the calls that a number of 64 bits counts
 abbrev pub max_calls : ℕ
@@ -25,25 +32,35 @@ max_calls = 18446744073709551615
 unfoldable pub is_ready : ℕ → List ℕ → Bool
 is_ready calls rest = ltb calls max_calls && is_whole rest
 
--- the call of the record that comes
+-- what the record that comes brings to its call
+abbrev pub input_of : MarkerState → FrameInput
+input_of s = frame_input (time_of s.rest) (replicate id_bytes 0) (frame_in s.rest) s.buffer
+
+-- the call
 unfoldable pub call_of : MarkerState → LentFrameCall
-call_of s = banks_call s.lent (time_of s.rest) (frame_in s.rest)
+call_of s = lent_frame_call s.lent (input_of s)
 
 -- what it leaves
 unfoldable pub called : MarkerState → MarkerState
 called s = record {
   lent = (call_of s).lent;
+  buffer = (call_of s).buffer;
   calls = s.calls + 1;
   rest = drop (head_bytes + size_of s.rest) s.rest;
 }
 
--- the clock of its offset, that "of the bank that they name"
+-- the clock of its offset, as the call sets it: "the larger of its old value and the time given"
 abbrev pub offset_clock : MarkerState → ℕ
-offset_clock s = clock_for s.lent (time_of s.rest) (read_request (frame_in s.rest))
+offset_clock s = clock_by (memory.state_of s.lent) (input_of s)
 
 -- and its line
 unfoldable pub called_line : MarkerState → List ℕ
 called_line s = line_of (s.calls + 1) (call_of s).answer (call_of s).buffer (frame_in s.rest) (offset_clock s)
+
+-- what the calls find, from a fresh bank on: a bank's rows, and a clock that is at most the last time
+pub record Clocked (rows : List ℕ) : Type 0 where
+  pub sound : is_sound rows ≡ true
+  pub in_time : (bank_of rows).clock ≤ last_time
 
 -- at most n calls, while one is ready
 unfoldable pub calls_to : ℕ → MarkerState → MarkerState
@@ -66,11 +83,12 @@ pub record Print : Type 0 where
   pub written : ℕ
 
 -- what the code holds between two calls
-abbrev pub state_of : Marked → List ℕ → Lent → MarkerState
-state_of m input kept = marker_state m.calls (drop m.used input) kept
+abbrev pub state_of : Marked → List ℕ → Lent → List ℕ → MarkerState
+state_of m input kept buffer = marker_state m.calls (drop m.used input) kept buffer
 
-abbrev pub print_of : Marked → List ℕ → Lent → List ℕ → Print
-print_of m input kept output = record { state = state_of m input kept; output = output; written = m.written }
+abbrev pub print_of : Marked → List ℕ → Lent → List ℕ → List ℕ → Print
+print_of m input kept buffer output =
+    record { state = state_of m input kept buffer; output = output; written = m.written }
 
 -- lines written into the output from a place on
 abbrev pub left_at : ℕ → MarkerState → List ℕ → List ℕ → Print

@@ -1,12 +1,12 @@
 // The line of a call, and the header of the calls, written into a lent output.
-ghost use Rattle.std.specs.Prelude.{◌≡◌, ◌&&◌, ◌+◌, ◌≤◌, length};
+ghost use Rattle.std.specs.Prelude.{◌≡◌, ◌+◌, ◌≤◌, length};
 ghost use Rattle.frame_table.specs.Table.{last_time};
 ghost use Rattle.print.specs.Text.{Put, code_digits, printed, printed_count};
 ghost use Rattle.marker_column.specs.Offset.{Timed};
-ghost use Rattle.marker_session.specs.Lines.{coded_text, coded_line, line_room};
+ghost use Rattle.marker_session.specs.Lines.{is_answered, coded_text, coded_line, line_room};
 ghost use Rattle.marker_session.specs.Lines.{call_header, header_room};
 
-use crate::call::Called;
+use bank::call::FrameAnswer;
 use frame_table::fields::Fields;
 use marker_column::offset::{OFFSET_ROOM, put_offset};
 use number_table::table::WRONG_LENGTH;
@@ -22,36 +22,44 @@ pub const HEADER_ROOM: usize = 17;
 const NUMBER_DIGIT: u8 = b'0' + WRONG_LENGTH as u8;
 
 // Writes a call's code, or the number that it was given.
-fn put_answer(output: &mut [u8], at: usize, answered: bool, code: u64) -> usize
+fn put_answer(output: &mut [u8], at: usize, answer: FrameAnswer, code: u64) -> usize
     requires { at + code_digits ≤ length output.old }
-    ensures { Put output.old at (coded_text answered code) output.new result }
+    ensures { Put output.old at (coded_text answer code) output.new result }
 {
-    if answered {
-        return put_code(output, at, code);
+    match answer {
+        FrameAnswer::Reply(_) => put_code(output, at, code),
+        FrameAnswer::WrongLength => put_byte(output, at, NUMBER_DIGIT),
     }
-    put_byte(output, at, NUMBER_DIGIT)
 }
 
-// Whether a call shows the offset of its opening: a bank has answered it by a frame.
-fn is_shown(c: Called) -> bool
-    ensures { result ≡ (c.named && c.answered) }
+// Whether a call is answered by a frame.
+fn is_answered(answer: FrameAnswer) -> bool
+    ensures { result ≡ is_answered answer }
 {
-    if !c.named {
-        return false;
+    match answer {
+        FrameAnswer::Reply(_) => true,
+        FrameAnswer::WrongLength => false,
     }
-    c.answered
 }
 
-// Writes the line of call n, which brought this request and came to this.
-pub(crate) fn put_line(output: &mut [u8], at: usize, n: u64, c: Called, q: Fields) -> usize
-    requires { (at + line_room ≤ length output.old) × (c.clock ≤ last_time) × Timed q }
-    ensures { Put output.old at (coded_line n c q) output.new result }
+// Writes the line of call n, which brought this request, set this clock, and whose reply has this return code.
+pub(crate) fn put_line(
+    output: &mut [u8],
+    at: usize,
+    n: u64,
+    answer: FrameAnswer,
+    code: u64,
+    q: Fields,
+    clock: u64,
+) -> usize
+    requires { (at + line_room ≤ length output.old) × (clock ≤ last_time) × Timed q }
+    ensures { Put output.old at (coded_line n answer code q clock) output.new result }
 {
     let a = put_column(output, at, n, b' ');
-    let b = put_answer(output, a, c.answered, c.code);
-    let d = put_byte(output, b, b' ');
-    let e = put_offset(output, d, is_shown(c), q, c.clock);
-    put_byte(output, e, b'\n')
+    let b = put_answer(output, a, answer, code);
+    let c = put_byte(output, b, b' ');
+    let d = put_offset(output, c, is_answered(answer), q, clock);
+    put_byte(output, d, b'\n')
 }
 
 // The calls' header at the front of the output, and its length.

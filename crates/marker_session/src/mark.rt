@@ -3,11 +3,13 @@ ghost use Rattle.std.specs.Prelude.{◌≡◌, true, ◌&&◌, ◌+◌, ◌≤�
 ghost use Rattle.marker_session.specs.Lines.{line_room};
 ghost use Rattle.bank_steps.specs.Lent.{lent};
 ghost use Rattle.marker_session.specs.Marking.{is_ready, marker_state, state_of, print_of, marked_next, marked_all};
-ghost use Rattle.marker_session.specs.Banks.{Marks};
+ghost use Rattle.marker_session.specs.Marking.{Clocked};
 
-use crate::call::call;
 use crate::line::{LINE_ROOM, put_line};
 use crate::record::{HEAD_BYTES, frame_in, is_whole, size_of, time_of};
+use bank::call::answer_request;
+use bank_rows::numbers::clock;
+use bank_state::limits::ID_BYTES;
 use frame_reader::reader::{data_at, read_whole_request};
 use octets::bytes::behind;
 
@@ -43,27 +45,42 @@ fn mark_call(
     rows: &mut [u64],
     orders: &mut [u8],
     mailboxes: &mut [u8],
+    buffer: &mut [u8],
 ) -> Marked
     requires { (is_ready m.calls (drop m.used input.now) ≡ true) × (m.written + line_room ≤ length output.old)
-        × Marks (lent rows.old orders.old mailboxes.old) }
+        × Clocked rows.old }
     ensures { (print_of result input.now
-        (lent rows.new orders.new mailboxes.new) output.new
+        (lent rows.new orders.new mailboxes.new)
+        buffer.new output.new
         ≡ marked_next m.written
         (state_of m input.now
-        (lent rows.old orders.old mailboxes.old))
+        (lent rows.old orders.old mailboxes.old)
+        buffer.old)
         output.old)
         × (result.used ≤ length input.now)
-        × Marks (lent rows.new orders.new mailboxes.new) }
+        × Clocked rows.new }
 {
     let used = m.used;
     let rest = behind(input, used);
     let frame = frame_in(rest);
+    let ids = [0u8; ID_BYTES];
     let p = read_whole_request(frame);
     let q = p.fields;
     let bytes = data_at(frame, p.from, p.end);
-    let c = call(time_of(rest), q, bytes, rows, orders, mailboxes);
+    let step = answer_request(
+        rows,
+        time_of(rest),
+        &ids,
+        q,
+        bytes,
+        orders,
+        mailboxes,
+        buffer,
+    );
+    let o = step.out;
     let calls = m.calls + 1;
-    let written = put_line(output, m.written, calls, c, q);
+    let answer = o.answer;
+    let written = put_line(output, m.written, calls, answer, o.code, q, clock(rows));
     Marked {
         calls,
         used: used + HEAD_BYTES + size_of(rest),
@@ -80,16 +97,19 @@ pub(crate) fn mark(
     rows: &mut [u64],
     orders: &mut [u8],
     mailboxes: &mut [u8],
+    buffer: &mut [u8],
 ) -> Marked
-    requires { Marks (lent rows.old orders.old mailboxes.old) }
+    requires { Clocked rows.old }
     ensures { (print_of result input.now
-        (lent rows.new orders.new mailboxes.new) output.new
+        (lent rows.new orders.new mailboxes.new)
+        buffer.new output.new
         ≡ marked_all
         (marker_state calls input.now
-        (lent rows.old orders.old mailboxes.old))
+        (lent rows.old orders.old mailboxes.old)
+        buffer.old)
         output.old)
         × (result.used ≤ length input.now)
-        × Marks (lent rows.new orders.new mailboxes.new) }
+        × Clocked rows.new }
 {
     let mut m = Marked {
         calls,
@@ -98,7 +118,7 @@ pub(crate) fn mark(
     };
     let mut left = output.len() / LINE_ROOM;
     while is_ready(input, left, m.calls, m.used) {
-        m = mark_call(m, input, output, rows, orders, mailboxes);
+        m = mark_call(m, input, output, rows, orders, mailboxes, buffer);
         left -= 1;
     }
     m

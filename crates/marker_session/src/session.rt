@@ -1,15 +1,16 @@
 // The marker's session: records from standard input to its end, the print to standard output.
 ghost use Rattle.std.specs.Prelude.{◌≡◌, ◌-◌, ◌≤◌, ◌<◌, length, take, drop};
 ghost use Rattle.octets.specs.Bytes.{overwrite};
+ghost use Rattle.bank_rows.specs.Layout.{state_size};
 ghost use Rattle.bank_steps.specs.Lent.{lent};
-ghost use Rattle.marker_session.specs.Banks.{banks_size, Marks};
+ghost use Rattle.marker_session.specs.Marking.{Clocked};
 ghost use Rattle.marker_session.specs.Session.{reading_of, HasRoom, ReadFrom, started_with, SessionOf};
 
-use crate::call::{BANK_COUNT, BANKS_SIZE, STORES_BYTES};
 use crate::line::{LINE_ROOM, header};
 use crate::mark::mark;
 use crate::record::HEAD_BYTES;
 use bank_rows::layout::STATE_SIZE;
+use bank_state::limits::{REPLY_ROOM, STORE_BYTES};
 use libc::{STDIN_FILENO, STDOUT_FILENO};
 use octets::bytes::front;
 use print::book::book;
@@ -28,10 +29,10 @@ struct Reading {
     pub reads: u64,
 }
 
-// What a session leaves: the banks' numbers, and the number of its calls.
+// What a session leaves: the bank's rows, and the number of its calls.
 #[derive(Drop)]
 pub struct SessionEnd {
-    pub rows: [u64; BANKS_SIZE],
+    pub rows: [u64; STATE_SIZE],
     pub calls: u64,
 }
 
@@ -84,21 +85,31 @@ fn read_on(
     rows: &mut [u64],
     orders: &mut [u8],
     mailboxes: &mut [u8],
+    buffer: &mut [u8],
 ) -> Reading
-    requires { (0 < t.reads) × (t.held ≤ length input.old) × HasRoom input.old output.old
-        × Marks (lent rows.old orders.old mailboxes.old) }
+    requires { (0 < t.reads) × (t.held ≤ length input.old) × HasRoom input.old output.old × Clocked rows.old }
     ensures { (result.reads < t.reads)
-        × Marks (lent rows.new orders.new mailboxes.new)
+        × Clocked rows.new
         × ReadFrom
         (reading_of t input.old
-        (lent rows.old orders.old mailboxes.old))
+        (lent rows.old orders.old mailboxes.old)
+        buffer.old)
         result input.new
-        (lent rows.new orders.new mailboxes.new) }
+        (lent rows.new orders.new mailboxes.new)
+        buffer.new }
 {
     let held = t.held;
     let n = read_in(input, held);
     let end = held + n;
-    let m = mark(t.calls, &input[..end], output, rows, orders, mailboxes);
+    let m = mark(
+        t.calls,
+        &input[..end],
+        output,
+        rows,
+        orders,
+        mailboxes,
+        buffer,
+    );
     let reads = write_lines(output, m.written, n, t.reads);
     let left = keep(input, m.used, end);
     Reading {
@@ -116,13 +127,16 @@ fn read_all(
     rows: &mut [u64],
     orders: &mut [u8],
     mailboxes: &mut [u8],
+    buffer: &mut [u8],
 ) -> Reading
-    requires { HasRoom input.old output.old × Marks (lent rows.old orders.old mailboxes.old) }
+    requires { HasRoom input.old output.old × Clocked rows.old }
     ensures { ReadFrom
         (started_with
-        (lent rows.old orders.old mailboxes.old))
+        (lent rows.old orders.old mailboxes.old)
+        buffer.old)
         result input.new
-        (lent rows.new orders.new mailboxes.new) }
+        (lent rows.new orders.new mailboxes.new)
+        buffer.new }
 {
     let mut t = Reading {
         calls: 0,
@@ -130,7 +144,7 @@ fn read_all(
         reads: u64::MAX,
     };
     while 0 < t.reads {
-        t = read_on(t, input, output, rows, orders, mailboxes);
+        t = read_on(t, input, output, rows, orders, mailboxes, buffer);
     }
     t
 }
@@ -141,18 +155,12 @@ fn print_header(output: &mut [u8]) {
     io::write_all(STDOUT_FILENO, front(output, n));
 }
 
-// Prints the banks' books in bank order, each under its header.
-fn print_books(rows: &[u64], output: &mut [u8])
-    requires { length rows.now ≡ banks_size }
+// Prints the bank's book.
+fn print_book(rows: &[u64], output: &mut [u8])
+    requires { length rows.now ≡ state_size }
 {
-    let mut b = 0;
-    while b < BANK_COUNT {
-        let from = b * STATE_SIZE;
-        let end = from + STATE_SIZE;
-        let n = book(&rows[from..end], output);
-        io::write_all(STDOUT_FILENO, front(output, n));
-        b += 1;
-    }
+    let n = book(rows, output);
+    io::write_all(STDOUT_FILENO, front(output, n));
 }
 
 // Reads all records, and prints, in lent memory.
@@ -162,17 +170,20 @@ fn print_all(
     rows: &mut [u64],
     orders: &mut [u8],
     mailboxes: &mut [u8],
+    buffer: &mut [u8],
 ) -> Reading
-    requires { HasRoom input.old output.old × Marks (lent rows.old orders.old mailboxes.old) }
+    requires { HasRoom input.old output.old × Clocked rows.old }
     ensures { ReadFrom
         (started_with
-        (lent rows.old orders.old mailboxes.old))
+        (lent rows.old orders.old mailboxes.old)
+        buffer.old)
         result input.new
-        (lent rows.new orders.new mailboxes.new) }
+        (lent rows.new orders.new mailboxes.new)
+        buffer.new }
 {
     print_header(output);
-    let t = read_all(input, output, rows, orders, mailboxes);
-    print_books(rows, output);
+    let t = read_all(input, output, rows, orders, mailboxes, buffer);
+    print_book(rows, output);
     t
 }
 
@@ -182,15 +193,17 @@ pub fn session() -> SessionEnd
 {
     let mut input = [0u8; INPUT_BYTES];
     let mut output = [0u8; OUTPUT_BYTES];
-    let mut rows = [0u64; BANKS_SIZE];
-    let mut orders = [0u8; STORES_BYTES];
-    let mut mailboxes = [0u8; STORES_BYTES];
+    let mut rows = [0u64; STATE_SIZE];
+    let mut orders = [0u8; STORE_BYTES];
+    let mut mailboxes = [0u8; STORE_BYTES];
+    let mut buffer = [0u8; REPLY_ROOM];
     let t = print_all(
         &mut input,
         &mut output,
         &mut rows,
         &mut orders,
         &mut mailboxes,
+        &mut buffer,
     );
     SessionEnd {
         rows,

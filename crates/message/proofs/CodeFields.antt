@@ -38,7 +38,6 @@ code_of-field code.UserUnknown = refl
 code_of-field code.InvalidOrderType = refl
 code_of-field code.SegmentSizeExceeded = refl
 code_of-field code.InvalidXml = refl
-code_of-field code.InvalidHostId = refl
 code_of-field code.UnknownTransaction = refl
 code_of-field code.TransactionAbort = refl
 code_of-field code.MessageReplay = refl

@@ -31,7 +31,6 @@ use Rattle.frame_table.specs.Table.{
   order_attribute_tag,
   owner_tag,
   version_tag,
-  bank_tag,
   uzhnn,
   h003,
   width,
@@ -194,42 +193,41 @@ carrying f x d c a named known on high low =
 
 -- ---- requests
 
--- a subscriber's number, an exchange number and the bank's
-abbrev pub Sender : ℕ → ℕ → ℕ → Type 0
-Sender bank subscriber exchange = (subscriber < 2 ^ 16) × (exchange < 2 ^ 32) × (bank < 2 ^ 16)
+-- a subscriber's number and an exchange number
+abbrev pub Sender : ℕ → ℕ → Type 0
+Sender subscriber exchange = (subscriber < 2 ^ 16) × (exchange < 2 ^ 32)
 
-module _ (bank subscriber exchange : ℕ) (s : Sender bank subscriber exchange) where
-  request-fine : (d : List ℕ) (phase : ℕ) → 1 ≤ phase → phase ≤ 3 → Fine (request_of bank phase subscriber exchange) d
+module _ (subscriber exchange : ℕ) (s : Sender subscriber exchange) where
+  request-fine : (d : List ℕ) (phase : ℕ) → 1 ≤ phase → phase ≤ 3 → Fine (request_of phase subscriber exchange) d
   unfolding width values_of
   request-fine d phase h k =
       let p = with-phase no_fields d (fine-none d) phase h k in
-      let x = with-long _ d (with-short _ d p subscriber_tag subscriber (refl, refl, refl) s.0) exchange_tag exchange
-      (refl, refl, refl) s.1 in
-      with-short _ d x bank_tag bank (refl, refl, refl) s.2
+      with-long _ d (with-short _ d p subscriber_tag subscriber (refl, refl, refl) s.0) exchange_tag exchange
+      (refl, refl, refl) s.1
 
   module _ (nonce : Bits128) (timestamp : ℕ) (v : Wide nonce) (t : timestamp ≤ last_time) where
     opening-fine : (order_type : ℕ) → order_type < 2 ^ 24 → listed order_type_tag (bytes_of 3 order_type) ≡ true
-        → Fine (opening_of bank subscriber exchange order_type nonce timestamp) []
+        → Fine (opening_of subscriber exchange order_type nonce timestamp) []
     unfolding width values_of
     opening-fine order_type h l =
         let a = with-type _ [] (request-fine [] initialisation_phase (omega arith) (omega arith)) order_type h l in
         with-timestamp _ [] (with-wide _ [] a nonce_tag nonce (refl, refl, refl) v) timestamp t
 
     pub upload-opening-written : (segments : ℕ) → segments < 2 ^ 16
-        → WrittenAs (upload_opening bank subscriber exchange nonce timestamp segments) [] forms.UploadOpening
+        → WrittenAs (upload_opening subscriber exchange nonce timestamp segments) [] forms.UploadOpening
     unfolding upload_opening width values_of listed spelled bytes_of allowed in_range form_of find_form row_fits
     upload-opening-written segments h =
         let a = with-short _ [] (opening-fine ful (omega arith) refl) segments_tag segments (refl, refl, refl) h in
         plain _ forms.UploadOpening a refl refl refl refl refl
 
-    pub download-opening-written : WrittenAs (download_opening bank subscriber exchange nonce timestamp) []
+    pub download-opening-written : WrittenAs (download_opening subscriber exchange nonce timestamp) []
         forms.DownloadOpening
     unfolding download_opening width values_of listed spelled bytes_of allowed in_range form_of find_form row_fits
     download-opening-written =
         plain _ forms.DownloadOpening (opening-fine fdl (omega arith) refl) refl refl refl refl refl
 
     pub chosen-opening-written : (segments order_number : ℕ) → segments < 2 ^ 16 → order_number < 2 ^ 32
-        → WrittenAs (chosen_opening bank subscriber exchange nonce timestamp segments order_number) [] forms.ChosenOpening
+        → WrittenAs (chosen_opening subscriber exchange nonce timestamp segments order_number) [] forms.ChosenOpening
     unfolding chosen_opening upload_opening width values_of listed spelled bytes_of allowed in_range form_of find_form row_fits
     chosen-opening-written segments order_number h k =
         let a = with-short _ [] (opening-fine ful (omega arith) refl) segments_tag segments (refl, refl, refl) h in
@@ -237,7 +235,7 @@ module _ (bank subscriber exchange : ℕ) (s : Sender bank subscriber exchange) 
         plain _ forms.ChosenOpening b refl refl refl refl refl
 
     pub signing-written : (order_number owner : ℕ) → order_number < 2 ^ 32 → owner < 2 ^ 16
-        → WrittenAs (signing bank subscriber exchange nonce timestamp order_number owner) [] forms.Signing
+        → WrittenAs (signing subscriber exchange nonce timestamp order_number owner) [] forms.Signing
     unfolding signing width values_of listed spelled bytes_of allowed in_range form_of find_form row_fits
     signing-written order_number owner h k =
         let a = with-long _ [] (opening-fine ful (omega arith) refl) order_number_tag order_number (refl, refl, refl) h in
@@ -245,8 +243,7 @@ module _ (bank subscriber exchange : ℕ) (s : Sender bank subscriber exchange) 
         plain _ forms.Signing b refl refl refl refl refl
 
   module _ (transaction : Bits128) (v : Wide transaction) where
-    transfer-fine : (d : List ℕ) (segment : ℕ) → segment < 2 ^ 16
-        → Fine (transfer_of bank subscriber exchange transaction segment) d
+    transfer-fine : (d : List ℕ) (segment : ℕ) → segment < 2 ^ 16 → Fine (transfer_of subscriber exchange transaction segment) d
     unfolding width values_of
     transfer-fine d segment h =
         let a = with-wide _ d (request-fine d transfer_phase (omega arith) (omega arith)) transaction_tag transaction
@@ -255,20 +252,20 @@ module _ (bank subscriber exchange : ℕ) (s : Sender bank subscriber exchange) 
 
     pub upload-transfer-written : (segment last_mark : ℕ) (d : List ℕ) → segment < 2 ^ 16 → last_mark ≤ 1
         → Content d forms.UploadTransfer
-        → WrittenAs (upload_transfer bank subscriber exchange transaction segment last_mark) d forms.UploadTransfer
+        → WrittenAs (upload_transfer subscriber exchange transaction segment last_mark) d forms.UploadTransfer
     unfolding upload_transfer width form_of find_form row_fits
     upload-transfer-written segment last_mark d h k c =
         let a = with-last-mark _ d (transfer-fine d segment h) last_mark k in
         carrying _ forms.UploadTransfer d c (fine-data _ d a) refl refl refl refl refl
 
     pub download-transfer-written : (segment : ℕ) → segment < 2 ^ 16
-        → WrittenAs (download_transfer bank subscriber exchange transaction segment) [] forms.DownloadTransfer
+        → WrittenAs (download_transfer subscriber exchange transaction segment) [] forms.DownloadTransfer
     unfolding download_transfer width form_of find_form row_fits
     download-transfer-written segment h =
         plain _ forms.DownloadTransfer (transfer-fine [] segment h) refl refl refl refl refl
 
     pub receipt-written : (code : ℕ) → code ≤ 1
-        → WrittenAs (receipt bank subscriber exchange transaction code) [] forms.Receipt
+        → WrittenAs (receipt subscriber exchange transaction code) [] forms.Receipt
     unfolding receipt width values_of form_of find_form row_fits
     receipt-written code h =
         let a = with-wide _ [] (request-fine [] receipt_phase (omega arith) (omega arith)) transaction_tag transaction

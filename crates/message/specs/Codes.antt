@@ -1,4 +1,4 @@
--- The return codes of document 01 and of cards 8, 11 and 13, and the number of field 0D for each.
+-- The return codes of document 01 and of cards 8 and 11, and the number of field 0D for each.
 use Rattle.std.specs.Prelude.{ℕ, zero, suc, ◌+◌, ◌*◌, ◌/◌, ◌%◌, List, [], ◌∷◌}
 use Rattle.message.specs.declared.codes.ReturnCode.{ReturnCode}
 use Rattle.message.specs.declared.codes.ReturnCode.TheVariants as code
@@ -18,7 +18,6 @@ return_codes =
     ∷ code.InvalidOrderType
     ∷ code.SegmentSizeExceeded
     ∷ code.InvalidXml
-    ∷ code.InvalidHostId
     ∷ code.UnknownTransaction
     ∷ code.TransactionAbort
     ∷ code.MessageReplay
@@ -30,8 +29,7 @@ return_codes =
     ∷ []
 
 -- Document 01's six-digit code, as a decimal number; card 8, "It refuses an order not in the book with 091114";
--- card 11, "one held by an open or booked upload of that subscriber and type with 091115"; card 13, "It refuses a bank
--- outside 1 to 4 with 091011"
+-- card 11, "one held by an open or booked upload of that subscriber and type with 091115"
 abbrev pub code_value : ReturnCode → ℕ
 code_value code.Ok = 0
 code_value code.DownloadPostprocessDone = 11000
@@ -45,7 +43,6 @@ code_value code.UserUnknown = 91003
 code_value code.InvalidOrderType = 91005
 code_value code.SegmentSizeExceeded = 91009
 code_value code.InvalidXml = 91010
-code_value code.InvalidHostId = 91011
 code_value code.UnknownTransaction = 91101
 code_value code.TransactionAbort = 91102
 code_value code.MessageReplay = 91103

@@ -1,5 +1,5 @@
 -- The numbers of document 01 that the bank and the client share.
-use Rattle.std.specs.Prelude.{ℕ, Bool, ◌&&◌, leb}
+use Rattle.std.specs.Prelude.{ℕ}
 pub use Rattle.frame_writer.specs.Writer.{segment_bytes}
 
 -- card 6, "Allow 31 segments": "091118 begins at 32"
@@ -17,13 +17,6 @@ max_attempts = 5
 -- "Subscribers are 1 to 8, each with the mailbox of that number"
 abbrev pub subscribers : ℕ
 subscribers = 8
-
--- card 13, "four banks ... named by field 12 (2 bytes, 1 to 4)"
-abbrev pub banks : ℕ
-banks = 4
-
-abbrev pub is_bank : ℕ → Bool
-is_bank n = leb 1 n && leb n banks
 
 -- "FUL is an upload, FDL a download": three characters, high byte first
 abbrev pub ful : ℕ

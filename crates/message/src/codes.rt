@@ -1,4 +1,4 @@
-// The return codes of document 01 and of cards 8, 11 and 13 under their names of Annex 1.
+// The return codes of document 01 and of cards 8 and 11 under their names of Annex 1.
 ghost use Rattle.std.specs.Prelude.{◌≡◌};
 ghost use Rattle.message.specs.Codes.{code_field};
 
@@ -16,7 +16,6 @@ pub enum ReturnCode {
     InvalidOrderType,
     SegmentSizeExceeded,
     InvalidXml,
-    InvalidHostId,
     UnknownTransaction,
     TransactionAbort,
     MessageReplay,
@@ -44,7 +43,6 @@ pub fn code_field(code: ReturnCode) -> u64
         ReturnCode::InvalidOrderType => 0x30_39_31_30_30_35,
         ReturnCode::SegmentSizeExceeded => 0x30_39_31_30_30_39,
         ReturnCode::InvalidXml => 0x30_39_31_30_31_30,
-        ReturnCode::InvalidHostId => 0x30_39_31_30_31_31,
         ReturnCode::UnknownTransaction => 0x30_39_31_31_30_31,
         ReturnCode::TransactionAbort => 0x30_39_31_31_30_32,
         ReturnCode::MessageReplay => 0x30_39_31_31_30_33,

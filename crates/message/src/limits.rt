@@ -1,6 +1,4 @@
 // The numbers of document 01 that the bank and the client share. Each has the same name in specs/Limits.antt.
-ghost use Rattle.std.specs.Prelude.{◌≡◌};
-ghost use Rattle.message.specs.Limits.{is_bank};
 
 // The bytes of a segment but the last.
 pub const SEGMENT_BYTES: usize = 256;
@@ -20,9 +18,6 @@ pub const MAX_ATTEMPTS: u64 = 5;
 // Subscribers and mailboxes are numbered from 1 to this.
 pub const SUBSCRIBERS: u64 = 8;
 
-// Banks are numbered from 1 to this.
-pub const BANKS: u64 = 4;
-
 // The order types: FUL uploads, FDL downloads; three characters, high byte first.
 pub const FUL: u64 = 0x46_55_4C;
 
@@ -34,13 +29,3 @@ pub const INITIALISATION_PHASE: u64 = 1;
 pub const TRANSFER_PHASE: u64 = 2;
 
 pub const RECEIPT_PHASE: u64 = 3;
-
-// Whether a number is a bank's.
-pub fn is_bank(bank: u64) -> bool
-    ensures { result ≡ is_bank bank }
-{
-    if bank < 1 {
-        return false;
-    }
-    bank <= BANKS
-}

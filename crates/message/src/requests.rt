@@ -1,4 +1,4 @@
-// The seven request forms, each as the fields that it has, the bank last in every one.
+// The seven request forms, each as the fields that it has.
 ghost use Rattle.std.specs.Prelude.{◌≡◌};
 ghost use Rattle.message.specs.Requests.{request_of, opening_of, upload_opening, download_opening, transfer_of};
 ghost use Rattle.message.specs.Requests.{upload_transfer, download_transfer, receipt, signing, chosen_opening};
@@ -6,121 +6,103 @@ ghost use Rattle.message.specs.Requests.{upload_transfer, download_transfer, rec
 use crate::limits::{FDL, FUL, INITIALISATION_PHASE, RECEIPT_PHASE, TRANSFER_PHASE};
 use frame_table::fields::{Bits128, Fields};
 use frame_table::table::{
-    BANK, DATA, EXCHANGE, H003, LAST_MARK, NONCE, ORDER_ATTRIBUTE, ORDER_NUMBER, ORDER_TYPE, OWNER,
+    DATA, EXCHANGE, H003, LAST_MARK, NONCE, ORDER_ATTRIBUTE, ORDER_NUMBER, ORDER_TYPE, OWNER,
     PHASE, RECEIPT_CODE, SEGMENT, SEGMENTS, SUBSCRIBER, TIMESTAMP, TRANSACTION, UZHNN, VERSION,
 };
 
-// 01 02 03 12, which stand in every request.
-fn request_of(bank: u64, phase: u64, subscriber: u64, exchange: u64) -> Fields
-    ensures { result ≡ request_of bank phase subscriber exchange }
+// 01 02 03, which stand in every request.
+fn request_of(phase: u64, subscriber: u64, exchange: u64) -> Fields
+    ensures { result ≡ request_of phase subscriber exchange }
 {
     Fields::none()
         .with(PHASE, phase)
         .with(SUBSCRIBER, subscriber)
         .with(EXCHANGE, exchange)
-        .with(BANK, bank)
 }
 
-// 01 to 06 and 12, which stand in every opening.
+// 01 to 06, which stand in every opening.
 fn opening_of(
-    bank: u64,
     subscriber: u64,
     exchange: u64,
     order_type: u64,
     nonce: Bits128,
     timestamp: u64,
 ) -> Fields
-    ensures { result ≡ opening_of bank subscriber exchange order_type nonce timestamp }
+    ensures { result ≡ opening_of subscriber exchange order_type nonce timestamp }
 {
-    request_of(bank, INITIALISATION_PHASE, subscriber, exchange)
+    request_of(INITIALISATION_PHASE, subscriber, exchange)
         .with(ORDER_TYPE, order_type)
         .with_wide(NONCE, nonce)
         .with(TIMESTAMP, timestamp)
 }
 
-// Upload opening: 01 to 07, 12.
+// Upload opening: 01 to 07.
 pub fn upload_opening(
-    bank: u64,
     subscriber: u64,
     exchange: u64,
     nonce: Bits128,
     timestamp: u64,
     segments: u64,
 ) -> Fields
-    ensures { result ≡ upload_opening bank subscriber exchange nonce timestamp segments }
+    ensures { result ≡ upload_opening subscriber exchange nonce timestamp segments }
 {
-    opening_of(bank, subscriber, exchange, FUL, nonce, timestamp).with(SEGMENTS, segments)
+    opening_of(subscriber, exchange, FUL, nonce, timestamp).with(SEGMENTS, segments)
 }
 
-// Download opening: 01 to 06, 12.
-pub fn download_opening(
-    bank: u64,
-    subscriber: u64,
-    exchange: u64,
-    nonce: Bits128,
-    timestamp: u64,
-) -> Fields
-    ensures { result ≡ download_opening bank subscriber exchange nonce timestamp }
+// Download opening: 01 to 06.
+pub fn download_opening(subscriber: u64, exchange: u64, nonce: Bits128, timestamp: u64) -> Fields
+    ensures { result ≡ download_opening subscriber exchange nonce timestamp }
 {
-    opening_of(bank, subscriber, exchange, FDL, nonce, timestamp)
+    opening_of(subscriber, exchange, FDL, nonce, timestamp)
 }
 
-// 01 02 03 08 09 12, which stand in both transfers.
-fn transfer_of(
-    bank: u64,
-    subscriber: u64,
-    exchange: u64,
-    transaction: Bits128,
-    segment: u64,
-) -> Fields
-    ensures { result ≡ transfer_of bank subscriber exchange transaction segment }
+// 01 02 03 08 09, which stand in both transfers.
+fn transfer_of(subscriber: u64, exchange: u64, transaction: Bits128, segment: u64) -> Fields
+    ensures { result ≡ transfer_of subscriber exchange transaction segment }
 {
-    request_of(bank, TRANSFER_PHASE, subscriber, exchange)
+    request_of(TRANSFER_PHASE, subscriber, exchange)
         .with_wide(TRANSACTION, transaction)
         .with(SEGMENT, segment)
 }
 
-// Upload transfer: 01 02 03 08 09 0A 0B 12; the data stands beside the fields.
+// Upload transfer: 01 02 03 08 09 0A 0B; the data stands beside the fields.
 pub fn upload_transfer(
-    bank: u64,
     subscriber: u64,
     exchange: u64,
     transaction: Bits128,
     segment: u64,
     last_mark: u64,
 ) -> Fields
-    ensures { result ≡ upload_transfer bank subscriber exchange transaction segment last_mark }
+    ensures { result ≡ upload_transfer subscriber exchange transaction segment last_mark }
 {
-    transfer_of(bank, subscriber, exchange, transaction, segment)
+    transfer_of(subscriber, exchange, transaction, segment)
         .with(LAST_MARK, last_mark)
         .with(DATA, 0)
 }
 
-// Download transfer: 01 02 03 08 09 12.
+// Download transfer: 01 02 03 08 09.
 pub fn download_transfer(
-    bank: u64,
     subscriber: u64,
     exchange: u64,
     transaction: Bits128,
     segment: u64,
 ) -> Fields
-    ensures { result ≡ download_transfer bank subscriber exchange transaction segment }
+    ensures { result ≡ download_transfer subscriber exchange transaction segment }
 {
-    transfer_of(bank, subscriber, exchange, transaction, segment)
+    transfer_of(subscriber, exchange, transaction, segment)
 }
 
-// Receipt: 01 02 03 08 0C 12.
-pub fn receipt(bank: u64, subscriber: u64, exchange: u64, transaction: Bits128, code: u64) -> Fields
-    ensures { result ≡ receipt bank subscriber exchange transaction code }
+// Receipt: 01 02 03 08 0C.
+pub fn receipt(subscriber: u64, exchange: u64, transaction: Bits128, code: u64) -> Fields
+    ensures { result ≡ receipt subscriber exchange transaction code }
 {
-    request_of(bank, RECEIPT_PHASE, subscriber, exchange)
+    request_of(RECEIPT_PHASE, subscriber, exchange)
         .with_wide(TRANSACTION, transaction)
         .with(RECEIPT_CODE, code)
 }
 
-// Signing: 01 to 06, 0E, 0F, 10, 12; the order is of type FUL.
+// Signing: 01 to 06, 0E, 0F, 10; the order is of type FUL.
 pub fn signing(
-    bank: u64,
     subscriber: u64,
     exchange: u64,
     nonce: Bits128,
@@ -128,17 +110,16 @@ pub fn signing(
     order_number: u64,
     owner: u64,
 ) -> Fields
-    ensures { result ≡ signing bank subscriber exchange nonce timestamp order_number owner }
+    ensures { result ≡ signing subscriber exchange nonce timestamp order_number owner }
 {
-    opening_of(bank, subscriber, exchange, FUL, nonce, timestamp)
+    opening_of(subscriber, exchange, FUL, nonce, timestamp)
         .with(ORDER_NUMBER, order_number)
         .with(ORDER_ATTRIBUTE, UZHNN)
         .with(OWNER, owner)
 }
 
-// Upload opening of edition 2.4, which brings its order number: 01 to 07, 0E, 11, 12.
+// Upload opening of edition 2.4, which brings its order number: 01 to 07, 0E, 11.
 pub fn chosen_opening(
-    bank: u64,
     subscriber: u64,
     exchange: u64,
     nonce: Bits128,
@@ -146,9 +127,9 @@ pub fn chosen_opening(
     segments: u64,
     order_number: u64,
 ) -> Fields
-    ensures { result ≡ chosen_opening bank subscriber exchange nonce timestamp segments order_number }
+    ensures { result ≡ chosen_opening subscriber exchange nonce timestamp segments order_number }
 {
-    upload_opening(bank, subscriber, exchange, nonce, timestamp, segments)
+    upload_opening(subscriber, exchange, nonce, timestamp, segments)
         .with(ORDER_NUMBER, order_number)
         .with(VERSION, H003)
 }

@@ -10,7 +10,7 @@ use Rattle.std.specs.Prelude.{ℕ, zero, suc, ◌+◌, List, [], ◌∷◌}
 abbrev pub wrong_length : ℕ
 wrong_length = 1
 
--- "mailbox not 1 to 8"; card 13: "It refuses a bank outside 1 to 4 with ... number 2 to the host"
+-- "mailbox not 1 to 8"
 abbrev pub no_mailbox : ℕ
 no_mailbox = 2
 
@@ -25,8 +25,7 @@ mailbox_full = 4
 -- ---- *The client's owner* ("nothing changed")
 
 -- "an upload's payload of 0 or over 3,840 bytes or of changed length, a download's file buffer not 3,840, request
--- buffer under 303 (upload runs ignore the file buffer, download runs the payload)", since card 6 with 7,936, since
--- card 13 under 308
+-- buffer under 303 (upload runs ignore the file buffer, download runs the payload)", since card 6 with 7,936
 abbrev pub wrong_buffer : ℕ
 wrong_buffer = 5
 
@@ -34,7 +33,7 @@ wrong_buffer = 5
 abbrev pub exchange_too_high : ℕ
 exchange_too_high = 6
 
--- "subscriber not 1 to 8"; card 13: "It refuses a bank outside 1 to 4 with ... 7 at begin"
+-- "subscriber not 1 to 8"
 abbrev pub no_subscriber : ℕ
 no_subscriber = 7
 
@@ -57,16 +56,12 @@ too_late = 10
 abbrev pub seed_zero : ℕ
 seed_zero = 11
 
--- card 13: "with number 12, after 9, an image that would lift that sum above 16"
-abbrev pub too_many_open : ℕ
-too_many_open = 12
-
 -- ---- the table, in the papers' order; a card adds its row at the end
 
 abbrev pub table : List ℕ
 table =
     wrong_length ∷ no_mailbox ∷ wrong_file ∷ mailbox_full ∷ wrong_buffer ∷ exchange_too_high ∷ no_subscriber ∷ wrong_stage
-    ∷ not_admitted ∷ too_late ∷ seed_zero ∷ too_many_open ∷ []
+    ∷ not_admitted ∷ too_late ∷ seed_zero ∷ []
 
 -- so many numbers, one by one from the first on
 unfoldable pub counted_from : ℕ → ℕ → List ℕ

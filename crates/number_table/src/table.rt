@@ -24,5 +24,3 @@ pub const NOT_ADMITTED: u64 = 9;
 pub const TOO_LATE: u64 = 10;
 
 pub const SEED_ZERO: u64 = 11;
-
-pub const TOO_MANY_OPEN: u64 = 12;

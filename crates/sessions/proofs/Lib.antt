@@ -3,7 +3,6 @@ pub mod Rooms
 pub mod ClientCalls
 pub mod MemoryBytes
 pub mod Standing
-pub mod OwnRuns
 pub mod BankSteps
 pub mod RunSteps
 pub mod JournalStep

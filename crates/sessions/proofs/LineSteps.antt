@@ -1,74 +1,70 @@
--- A line made, and a message put into one, change nothing of a course: banks, journals and runs are as they were, and
--- the lines' memory keeps its lengths. Assumes nothing.
+-- A line made, and a message put into one, change nothing of the course: bank, journal and runs are as they were, and the
+-- lines' memory keeps its lengths. Assumes nothing.
 use Prim.Native.Nat.{ℕ, ◌-◌, ◌≤◌, ◌<◌}
+use mathlib.Core.Bool.{Bool, true, false, cond}
 use mathlib.Core.List.{List}
 use mathlib.Core.Path.{◌≡◌, refl}
 use native.Mathlib.Omega.{arith}
-use Rattle.message.proofs.Verdicts.{by-test}
 use Rattle.exchange.specs.Course.{Course}
+use Rattle.unit_state.specs.declared.answer.Answer.TheVariants.{NoCall}
 use Rattle.unit_state.specs.declared.record.Kind.TheVariants as kind
 use Rattle.unit_state.specs.Records.{line_of, seed_of, body_of, line_count, call_of}
 use Rattle.unit_state.proofs.Parts.{callable, line-within}
 use Rattle.unit_rows.specs.Lines.{row_at, is_made, made_at}
 use Rattle.unit.specs.State.{State}
-use Rattle.unit.specs.Call.{UnitCall, line_index, make_step, put_step, put_in_step}
+use Rattle.unit.specs.Call.{UnitCall, unchanged, line_index, make_step, put_step, put_in_step}
 use Rattle.unit_lines.proofs.Parts.{made-rows, put-rows, put-stores}
-use Rattle.sessions.specs.Sessions.{Same}
-use Rattle.sessions.proofs.Standing.{Standing, by-session}
+use Rattle.sessions.proofs.Standing.{Standing}
 
 line-inside : (n : ℕ) → (1 ≤ n) × (n ≤ line_count) → n - 1 < line_count
 line-inside n h = omega arith
 
-module _ {u : State} (v : Standing u) (r : List ℕ) where
-  pub make-standing : call_of r ≡ kind.MakeLine → Standing (make_step u r).state
+module _ {u : State} {s : Course} (v : Standing u s) (r : List ℕ) where
+  pub make-standing : call_of r ≡ kind.MakeLine → Standing (make_step u r).state s
   unfolding make_step made_at
   make-standing e =
       let inside = line-inside (line_of r) (line-within (line_of r) (callable r kind.MakeLine refl e).within) in
       record {
-        banks = v.banks;
-        runs = v.runs;
-        rooms = v.rooms;
+        listed = v.listed;
+        stores = v.stores;
+        bank = v.bank;
+        journal = v.journal;
+        count = v.count;
+        payloads = v.payloads;
+        files = v.files;
+        room = v.room;
         image = v.image;
-        lines = record {
-          rows = made-rows u.memory.lines v.lines.rows v.lines.stores (line_index r) inside (seed_of r);
-          stores = v.lines.stores;
-        };
+        line-rows = made-rows u.memory.lines v.line-rows v.line-stores (line_index r) inside (seed_of r);
+        line-stores = v.line-stores;
+        runs = v.runs;
       }
 
-  put-standing : line_index r < line_count → Standing (put_step u r).state
+  put-standing : line_index r < line_count → Standing (put_step u r).state s
   unfolding put_step
   put-standing inside =
       let m = u.memory.lines in
       let x = body_of kind.PutIn r in
       record {
-        banks = v.banks;
-        runs = v.runs;
-        rooms = v.rooms;
+        listed = v.listed;
+        stores = v.stores;
+        bank = v.bank;
+        journal = v.journal;
+        count = v.count;
+        payloads = v.payloads;
+        files = v.files;
+        room = v.room;
         image = v.image;
-        lines = record {
-          rows = put-rows m v.lines.rows v.lines.stores (line_index r) inside x u.memory.buffer;
-          stores = put-stores m v.lines.rows v.lines.stores (line_index r) inside x u.memory.buffer;
-        };
+        line-rows = put-rows m v.line-rows v.line-stores (line_index r) inside x u.memory.buffer;
+        line-stores = put-stores m v.line-rows v.line-stores (line_index r) inside x u.memory.buffer;
+        runs = v.runs;
       }
 
-  pub put-in-standing : call_of r ≡ kind.PutIn → Standing (put_in_step u r).state
+  either : (t : Bool) (x : UnitCall) → Standing x.state s → Standing (cond t x (unchanged u NoCall)).state s
+  either true x h = h
+  either false x h = v
+
+  pub put-in-standing : call_of r ≡ kind.PutIn → Standing (put_in_step u r).state s
   unfolding put_in_step
   put-in-standing e =
       let inside = line-inside (line_of r) (line-within (line_of r) (callable r kind.PutIn refl e).within) in
-      by-test (λ (o : UnitCall). Standing o.state) (is_made (row_at u.memory.lines.rows (line_index r)))
-      (λ _. put-standing inside) (λ _. v)
-
-module _ {b : ℕ} {u : State} {s : Course} (h : Same b u s) (r : List ℕ) where
-  pub make_same : Same b (make_step u r).state s
-  unfolding make_step
-  make_same = by-session refl h.bank h.journal h.runs
-
-  put_same : Same b (put_step u r).state s
-  unfolding put_step
-  put_same = by-session refl h.bank h.journal h.runs
-
-  pub put-in-same : Same b (put_in_step u r).state s
-  unfolding put_in_step
-  put-in-same =
-      by-test (λ (o : UnitCall). Same b o.state s) (is_made (row_at u.memory.lines.rows (line_index r)))
-      (λ _. put_same) (λ _. h)
+      either (is_made (row_at u.memory.lines.rows (line_index r))) (put_step u r) (put-standing inside)

@@ -1,7 +1,7 @@
--- "Lodged" as the unit answers it: the run that the record names is ended so, and the answer has the name of its order,
--- which is in the book. Assumes nothing.
-use Prim.Native.Nat.{ℕ}
-use mathlib.Core.Bool.{true, false}
+-- "Lodged" as the unit answers it: the run that the record names is ended so, and the answer has the name of its order, which
+-- is in the book. Assumes nothing.
+use Prim.Native.Nat.{ℕ, ◌<◌}
+use mathlib.Core.Bool.{Bool, true, false, cond}
 use mathlib.Core.List.{List, [], ◌∷◌, ◌++◌}
 use mathlib.Core.Path.{◌≡◌, refl, sym, ap, ◌∙◌, subst}
 use Rattle.octets.proofs.Tests.{never}
@@ -10,24 +10,15 @@ use Rattle.bank.specs.declared.call.FrameAnswer.{FrameAnswer}
 use Rattle.bank.specs.declared.call.FrameAnswer.TheVariants as frame
 use Rattle.bank.specs.declared.mailbox.FileAnswer.{FileAnswer}
 use Rattle.bank.specs.declared.mailbox.FileAnswer.TheVariants as put
-use Rattle.message.proofs.Verdicts.{by-test}
+use Rattle.bank.specs.Call.{frame_input}
 use Rattle.bank_session.specs.declared.report.CountAnswer.{CountAnswer}
 use Rattle.bank_session.specs.declared.report.CountAnswer.TheVariants as count
+use Rattle.bank_session.specs.Session.{session_frame_call, session_file_call, count_call}
 use Rattle.image_calls.specs.declared.calls.Away.{Away}
 use Rattle.image_calls.specs.declared.calls.Away.TheVariants as away
 use Rattle.image_calls.specs.declared.calls.TakenUp.{TakenUp}
 use Rattle.image_calls.specs.declared.calls.TakenUp.TheVariants as up
-use Rattle.banks.specs.declared.host.BankFile.{BankFile}
-use Rattle.banks.specs.declared.host.BankFile.TheVariants as bank-file
-use Rattle.banks.specs.declared.host.BankCounts.{BankCounts}
-use Rattle.banks.specs.declared.host.BankCounts.TheVariants as bank-counts
-use Rattle.banks.specs.declared.images.BankAway.{BankAway}
-use Rattle.banks.specs.declared.images.BankAway.TheVariants as bank-away
-use Rattle.banks.specs.declared.images.BankTakenUp.{BankTakenUp}
-use Rattle.banks.specs.declared.images.BankTakenUp.TheVariants as bank-up
-use Rattle.banks.specs.Frames.{arrival, banks_frame_call}
-use Rattle.banks.specs.Host.{banks_file_call, banks_count_call}
-use Rattle.banks.specs.Images.{banks_put_away, banks_take_up}
+use Rattle.image_calls.specs.Calls.{put_away, take_up}
 use Rattle.calendar.specs.declared.value_day.ValueDay.{ValueDay}
 use Rattle.calendar.specs.declared.value_day.ValueDay.TheVariants as value
 use Rattle.calendar.specs.ValueDay.{value_day}
@@ -39,44 +30,41 @@ use Rattle.client_run.specs.declared.run.ClientRun.{ClientRun}
 use Rattle.client_run.specs.declared.run.Word.{Word}
 use Rattle.client_run.specs.declared.run.Word.TheVariants.{Lodged}
 use Rattle.client_run.specs.Run.{order_name}
-use Rattle.unit_state.specs.declared.answer.Answer.TheVariants.{Closed}
+use Rattle.exchange.specs.Course.{Course}
+use Rattle.unit_state.specs.declared.answer.Answer.TheVariants.{Closed, NoCall}
 use Rattle.unit_state.specs.declared.record.Kind.{Kind}
 use Rattle.unit_state.specs.declared.record.Kind.TheVariants as kind
 use Rattle.unit_state.specs.Records.{
   bank_time_of,
   ids_of,
-  bank_named,
   mailbox_of,
   run_of,
   booking_time_of,
   seed_of,
   body_of,
+  run_count,
   call_of,
   is_call,
 }
 use Rattle.unit_rows.specs.Lines.{row_at, is_made, made_at, put_at}
-use Rattle.unit_clients.specs.Clients.{index_of}
-use Rattle.unit_clients.proofs.Named.{is_closed}
-use Rattle.unit.specs.State.{State}
+use Rattle.unit.specs.State.{State, session_in}
 use Rattle.unit.specs.Call.{
   UnitCall,
   frame_answer,
   file_answer,
-  bank_file_answer,
   away_answer,
-  bank_away_answer,
   taken_up_answer,
-  bank_taken_up_answer,
   value_day_answer,
   count_answer,
-  bank_count_answer,
   line_answer,
   out_answer,
+  index_of,
   frame_step,
   file_step,
   away_step,
   take_up_step,
   image_step,
+  unchanged,
   value_day_step,
   line_index,
   make_step,
@@ -86,22 +74,13 @@ use Rattle.unit.specs.Call.{
   step_of,
   unit_call,
 }
-use Rattle.unit_state.proofs.Parts.{run-within, run-named}
-use Rattle.sessions.specs.Sessions.{
-  fresh_unit,
-  Records,
-  more,
-  unit_after,
-  client_at,
-  front_of,
-  SessionsClose,
-  LodgedNamed,
-}
+use Rattle.unit.proofs.Named.{is_closed}
+use Rattle.unit_state.proofs.Parts.{callable, run-within, run-named}
+use Rattle.sessions.specs.Sessions.{fresh_unit, Records, more, unit_after, client_at, front_of, SessionsClose, LodgedNamed}
 use Rattle.sessions.proofs.Standing.{Standing, Tells, made, fresh-standing}
-use Rattle.sessions.proofs.OwnRuns.{run_inside}
 use Rattle.sessions.proofs.RunSteps.{run-closed}
 use Rattle.sessions.proofs.JournalStep.{journal-closed}
-use Rattle.sessions.proofs.Theorem.{standing-after}
+use Rattle.sessions.proofs.Theorem.{run_inside, standing-after}
 use Rattle.sessions.proofs.ClosingWords.{first-records, sessions-close}
 
 -- ---- the other answers close no run
@@ -117,18 +96,10 @@ by-file put.NoMailbox = refl
 by-file put.WrongFile = refl
 by-file put.MailboxFull = refl
 
-by-bank-file : (x : BankFile) → is_closed (bank_file_answer x) ≡ false
-by-bank-file bank-file.NoBank = refl
-by-bank-file (bank-file.Of x) = by-file x
-
 by-away : (x : Away) → is_closed (away_answer x) ≡ false
 by-away (away.Length n) = refl
 by-away away.WrongLength = refl
 by-away away.NotAdmitted = refl
-
-by-bank-away : (x : BankAway) → is_closed (bank_away_answer x) ≡ false
-by-bank-away bank-away.NoBank = refl
-by-bank-away (bank-away.Of x) = by-away x
 
 by-value-day : (x : ValueDay) → is_closed (value_day_answer x) ≡ false
 by-value-day (value.Day d) = refl
@@ -137,10 +108,6 @@ by-value-day value.TooLate = refl
 by_count : (x : CountAnswer) → is_closed (count_answer x) ≡ false
 by_count (count.Counted c) = refl
 by_count count.WrongLength = refl
-
-by-bank-count : (x : BankCounts) → is_closed (bank_count_answer x) ≡ false
-by-bank-count bank-counts.NoBank = refl
-by-bank-count (bank-counts.Of x) = by_count x
 
 by-line : (x : MakeAnswer) → is_closed (line_answer x) ≡ false
 by-line make.Made = refl
@@ -152,39 +119,39 @@ by_out (put-answer.Out n) = refl
 by_out (put-answer.OutAndHeld n k) = refl
 by_out put-answer.WrongLength = refl
 
+-- to a line not made it is no call
+by-put : (t : Bool) (u : State) (x : UnitCall) → is_closed x.answer ≡ false
+    → is_closed (cond t x (unchanged u NoCall)).answer ≡ false
+by-put true u x e = e
+by-put false u x e = refl
+
 by-taken : (x : TakenUp) → is_closed (taken_up_answer x) ≡ false
 by-taken up.Done = refl
 by-taken up.WrongLength = refl
 by-taken up.NotAdmitted = refl
 
-by-bank-taken : (x : BankTakenUp) → is_closed (bank_taken_up_answer x) ≡ false
-by-bank-taken bank-up.NoBank = refl
-by-bank-taken bank-up.TooManyOpen = refl
-by-bank-taken (bank-up.Of x) = by-taken x
-
 -- ---- the run that the record names
 
-module _ {u : State} (v : Standing u) (r : List ℕ) (w : Word) (o : OrderName) where
+module _ {u : State} {s : Course} (v : Standing u s) (r : List ℕ) (w : Word) (o : OrderName) where
   abbrev Named : UnitCall → Type 0
-  Named x = Tells w o (client_at x.state (index_of r))
+  Named x = (index_of r < run_count) × Tells w o (client_at x.state (index_of r))
 
   named_by : (g : Kind) → call_of r ≡ g → is_call g ≡ true → (step_of g u r).answer ≡ Closed w o → Named (step_of g u r)
   unfolding frame_step file_step away_step take_up_step image_step value_day_step make_step put_step put_in_step count_step
   named_by kind.Frame e h c =
-      let a = arrival (bank_time_of r) (ids_of r) (body_of kind.Frame r) u.memory.buffer in
-      never (sym (by-frame (banks_frame_call u.memory.banks a).answer) ∙ ap is_closed c)
+      let input = frame_input (bank_time_of r) (ids_of r) (body_of kind.Frame r) u.memory.buffer in
+      never (sym (by-frame (session_frame_call (session_in u) input).answer) ∙ ap is_closed c)
   named_by kind.File e h c =
-      let m = u.memory.banks in
-      let o = banks_file_call m.rows (bank_named r) (mailbox_of r) (body_of kind.File r) m.mailboxes in
-      never (sym (by-bank-file o.answer) ∙ ap is_closed c)
+      let o = session_file_call u.memory.bank.rows (mailbox_of r) (body_of kind.File r) u.memory.bank.mailboxes in
+      never (sym (by-file o.answer) ∙ ap is_closed c)
   named_by (kind.Run x) e h c =
-      let within = run_inside (run_of r) (run-within (run_of r) (run-named r x e)) in
-      run-closed v r x within w o c
-  named_by kind.Journal e h c = journal-closed v r e w o c
-  named_by kind.Away e h c =
-      never (sym (by-bank-away (banks_put_away u.memory.banks (bank_named r) (front_of u r)).answer) ∙ ap is_closed c)
-  named_by kind.TakeUp e h c =
-      never (sym (by-bank-taken (banks_take_up u.memory.banks (bank_named r) (front_of u r)).answer) ∙ ap is_closed c)
+      let inside = run_inside (run_of r) (run-within (run_of r) (run-named r x e)) in
+      (inside, run-closed v r x inside w o c)
+  named_by kind.Journal e h c =
+      let inside = run_inside (run_of r) (run-within (run_of r) (callable r kind.Journal refl e).within) in
+      (inside, journal-closed v r inside w o c)
+  named_by kind.Away e h c = never (sym (by-away (put_away (session_in u) (front_of u r)).answer) ∙ ap is_closed c)
+  named_by kind.TakeUp e h c = never (sym (by-taken (take_up (session_in u) (front_of u r)).answer) ∙ ap is_closed c)
   named_by kind.Image e h c = never (ap is_closed c)
   named_by kind.ValueDay e h c = never (sym (by-value-day (value_day (booking_time_of r))) ∙ ap is_closed c)
   named_by kind.MakeLine e h c =
@@ -192,10 +159,8 @@ module _ {u : State} (v : Standing u) (r : List ℕ) (w : Word) (o : OrderName) 
   named_by kind.PutIn e h c =
       let o = put_at u.memory.lines (line_index r) (body_of kind.PutIn r) u.memory.buffer in
       let t = is_made (row_at u.memory.lines.rows (line_index r)) in
-      never (sym (by-test (λ (x : UnitCall). is_closed x.answer ≡ false) t (λ _. by_out o.answer) (λ _. refl))
-      ∙ ap is_closed c)
-  named_by kind.Counts e h c =
-      never (sym (by-bank-count (banks_count_call u.memory.banks.rows (bank_named r))) ∙ ap is_closed c)
+      never (sym (by-put t u (put_step u r) (by_out o.answer)) ∙ ap is_closed c)
+  named_by kind.Counts e h c = never (sym (by_count (count_call u.memory.bank.rows)) ∙ ap is_closed c)
   named_by kind.NoCall e h c = never h
 
   named : is_call (call_of r) ≡ true → (unit_call u r).answer ≡ Closed w o → Named (unit_call u r)
@@ -217,12 +182,12 @@ after_last u (x ∷ rs) r = after_last (unit_call u x).state rs r
 
 pub lodged-named : LodgedNamed
 unfolding LodgedNamed SessionsClose
-lodged-named b within rs r ts records copies numbers o c own =
+lodged-named rs r ts records copies numbers o c =
     let session = first-records (rs ++ (r ∷ [])) ts records in
     let standing = standing-after (first-records rs (r ∷ []) session) fresh-standing in
-    let told = named standing r Lodged o (last-call rs r session) c in
-    let is = ap (λ (x : State). client_at x (index_of r)) (after_last fresh_unit rs r) in
-    let d = (sessions-close b within (rs ++ (r ∷ [])) ts records copies numbers).2 in
-    let x = d.lodged (index_of r) own (ap (λ (k : ClientRun). k.stage) is ∙ told.ended) in
+    let told = named standing.1 r Lodged o (last-call rs r session) c in
+    let own = ap (λ (x : State). client_at x (index_of r)) (after_last fresh_unit rs r) in
+    let d = (sessions-close (rs ++ (r ∷ [])) ts records copies numbers).2 in
+    let x = d.lodged (index_of r) told.0 (ap (λ (k : ClientRun). k.stage) own ∙ told.1.ended) in
     let y = x.1 in
-    (x.0, (y.0, y.1, y.2, y.3, y.4 ∙ ap (λ (k : ClientRun). order_name k) is ∙ sym told.name))
+    (x.0, (y.0, y.1, y.2, y.3, y.4 ∙ ap (λ (k : ClientRun). order_name k) own ∙ sym told.1.name))

@@ -1,33 +1,29 @@
--- Of each bank a record is the call of demand 3 that it stands for, or none, and the records after it go on from what
--- both leave. Assumes nothing.
-use Prim.Native.Nat.{ℕ, ◌-◌, ◌<◌}
+-- A record's call is the call of demand 3 that it stands for, and the records after it go on from what both leave.
+-- Assumes nothing.
+use Prim.Native.Nat.{ℕ, ◌-◌, ◌≤◌, ◌<◌}
 use mathlib.Core.Bool.{true}
-use mathlib.Core.List.{List, [], ◌∷◌, ◌++◌, map, map-append}
+use mathlib.Core.List.{List, ◌∷◌, map}
 use mathlib.Core.Path.{◌≡◌, refl, sym, ap, ◌∙◌, subst}
-use borrow.Author.Tests.{eq-eqb}
+use native.Mathlib.Omega.{arith}
 use Rattle.octets.specs.Bytes.{Bytes}
 use Rattle.octets.proofs.Tests.{never}
-use Rattle.message.specs.Limits.{banks}
-use Rattle.client_run.specs.declared.run.ClientRun.{ClientRun}
-use Rattle.client_rules.specs.Rulings.{is_begun}
-use Rattle.banks.proofs.Lengths.{named-inside}
 use Rattle.exchange.specs.Course.{Call, Course, exec, after}
-use Rattle.exchange.proofs.Safety.{after-append}
 use Rattle.unit_state.specs.declared.record.Kind.{Kind}
 use Rattle.unit_state.specs.declared.record.Kind.TheVariants as kind
-use Rattle.unit_state.specs.Records.{run_of, call_of, is_call}
-use Rattle.unit_state.proofs.Parts.{run-within, run-named}
+use Rattle.unit_state.specs.Records.{run_of, run_count, call_of, is_call}
 use Rattle.unit.specs.State.{State}
 use Rattle.unit.specs.Call.{UnitCall, value_day_step, count_step, step_of, unit_call}
+use Rattle.unit_state.proofs.Parts.{callable, run-within, run-named}
 use Rattle.sessions.specs.Sessions.{
   Records,
   none,
   more,
   unit_after,
-  is_own,
-  call_by,
+  call_first,
+  answer_first,
   calls_of,
   Told,
+  told_of,
   answers_of,
   told_by,
   Given,
@@ -35,123 +31,123 @@ use Rattle.sessions.specs.Sessions.{
   Same,
   IsCourse,
   Sessions,
-  RunsOwned,
 }
-use Rattle.sessions.proofs.Standing.{
-  Stands,
-  unbegun,
-  begun,
-  Standing,
-  made,
-  Stepped,
-  stays,
-  fresh-standing,
-  fresh-same,
-}
-use Rattle.sessions.proofs.BankSteps.{frame-standing, frame_step_lem, file-standing, file-step}
-use Rattle.sessions.proofs.OwnRuns.{run_inside}
-use Rattle.sessions.proofs.RunSteps.{run-standing, run_step_lem}
-use Rattle.sessions.proofs.JournalStep.{journal-standing, journal-step}
-use Rattle.sessions.proofs.ImageSteps.{
-  away-standing,
-  away-step,
-  taken-standing,
-  taken_step,
-  image-standing,
-  image-same,
-}
-use Rattle.sessions.proofs.LineSteps.{make-standing, make_same, put-in-standing, put-in-same}
-
--- ---- a record
-
-module _ {u : State} (v : Standing u) (r : List ℕ) (bytes : Bytes r) where
-  -- the unit after it, and the calls of each bank's course that it is
-  pub record Next (g : Kind) (o : UnitCall) : Type 0 where
-    pub standing : Standing o.state
-    pub step : (b : ℕ) → b < banks → (s : Course) → Same b u s → Stepped b s (call_by b g u r) o
-
-  -- it leaves the unit
-  left : (g : Kind) {o : UnitCall} → o.state ≡ u → ((b : ℕ) → call_by b g u r ≡ []) → Next g o
-  left g {o} e empty = record {
-    standing = subst Standing (sym e) v;
-    step = λ b inside s h.
-        subst (λ (ks : List Call). Stepped b s ks o) (sym (empty b))
-        (stays (subst (λ (x : State). Same b x s) (sym e) h));
-  }
-
-  next-call : (g : Kind) → call_of r ≡ g → is_call g ≡ true → Next g (step_of g u r)
-  unfolding value_day_step count_step
-  next-call kind.Frame e h =
-      record { standing = frame-standing v r bytes; step = λ b inside s same. frame_step_lem v r bytes b inside same }
-  next-call kind.File e h =
-      record { standing = file-standing v r bytes; step = λ b inside s same. file-step v r bytes b inside same }
-  next-call (kind.Run x) e h =
-      let inside = run_inside (run_of r) (run-within (run_of r) (run-named r x e)) in
-      record { standing = run-standing v r x inside; step = λ b _ s same. run_step_lem v r x inside b same }
-  next-call kind.Journal e h =
-      record { standing = journal-standing v r e; step = λ b _ s same. journal-step v r e b same }
-  next-call kind.Away e h =
-      record { standing = away-standing v r; step = λ b inside s same. away-step v r b inside same }
-  next-call kind.TakeUp e h =
-      record { standing = taken-standing v r; step = λ b inside s same. taken_step v r b inside same }
-  next-call kind.Image e h =
-      record { standing = image-standing v r bytes e; step = λ b _ s same. stays (image-same v r same) }
-  next-call kind.ValueDay e h = left kind.ValueDay refl (λ b. refl)
-  next-call kind.MakeLine e h =
-      record { standing = make-standing v r e; step = λ b _ s same. stays (make_same same r) }
-  next-call kind.PutIn e h =
-      record { standing = put-in-standing v r e; step = λ b _ s same. stays (put-in-same same r) }
-  next-call kind.Counts e h = left kind.Counts refl (λ b. refl)
-  next-call kind.NoCall e h = never h
-
-  next : is_call (call_of r) ≡ true → Next (call_of r) (unit_call u r)
-  next h = subst (Next (call_of r)) (sym (made v r (call_of r) refl)) (next-call (call_of r) refl h)
+use Rattle.sessions.proofs.Standing.{Standing, Stepped, same, made, fresh-standing}
+use Rattle.sessions.proofs.BankSteps.{frame_step_lem, file-step}
+use Rattle.sessions.proofs.RunSteps.{run_step_lem}
+use Rattle.sessions.proofs.JournalStep.{journal-step}
+use Rattle.sessions.proofs.ImageSteps.{away-step, taken_step, image-standing}
+use Rattle.sessions.proofs.LineSteps.{make-standing, put-in-standing}
 
 -- ---- a record and those after it
 
-given-append : (ks ls : List Call) (s : Course) → AtEach Given ks s → AtEach Given ls (after ks s) →
-    AtEach Given (ks ++ ls) s
-unfolding after
-given-append [] ls s g h = h
-given-append (k ∷ ks) ls s g h = (g.0, given-append ks ls (exec k s) g.1 h)
+pub run_inside : (n : ℕ) → (1 ≤ n) × (n ≤ run_count) → n - 1 < run_count
+run_inside n h = omega arith
 
-is-course : {rs : List (List ℕ)} → Records rs → {u : State} → Standing u → (b : ℕ) → b < banks → {s : Course} →
-    Same b u s →
-    IsCourse b u rs s
-unfolding calls_of unit_after answers_of after
-is-course none v b inside h = record { given = tt; same = h; answers = refl }
-is-course (more {r = r} {rs = rs} bytes c records) {u} v b inside {s} h =
-    let x = next v r bytes c in
-    let step = x.step b inside s h in
-    let rest = is-course records x.standing b inside step.same in
-    let n = (unit_call u r).state in
-    let ks = call_by b (call_of r) u r in
-    let ls = calls_of b n rs in
+module _ (u : State) {s : Course} (r : List ℕ) (rs : List (List ℕ)) (k : Call) (step : Stepped s k (unit_call u r))
+    (first : (ks : List Call) → call_first (call_of r) u r ks ≡ k ∷ ks)
+    (told : (t : Told) (ts : List Told) → answer_first (call_of r) t ts ≡ t ∷ ts)
+    (rest : IsCourse (unit_call u r).state rs (exec k s)) where
+  abbrev ks : List Call
+  ks = calls_of (unit_call u r).state rs
+
+  joined : IsCourse u (r ∷ rs) s
+  unfolding calls_of unit_after answers_of after
+  joined = record {
+    given = subst (λ (l : List Call). AtEach Given l s) (sym (first ks)) (step.given, rest.given);
+    same =
+        subst (λ (l : List Call). Same (unit_after (unit_call u r).state rs) (after l s)) (sym (first ks)) rest.same;
+    answers =
+        told (told_of (unit_call u r)) (answers_of (unit_call u r).state rs)
+        ∙ ap (λ (x : Told). x ∷ answers_of (unit_call u r).state rs) step.answer
+        ∙ ap (λ (l : List Told). told_by k ∷ l) rest.answers
+        ∙ ap (map told_by) (sym (first ks));
+  }
+
+-- a record that is no call of the course
+beside : (u : State) (s : Course) (r : List ℕ) (rs : List (List ℕ))
+    → ((ks : List Call) → call_first (call_of r) u r ks ≡ ks) → ((t : Told) (ts : List Told) → answer_first (call_of r) t ts ≡ ts)
+    → IsCourse (unit_call u r).state rs s → IsCourse u (r ∷ rs) s
+unfolding calls_of unit_after answers_of
+beside u s r rs first-left told rest =
+    let first = first-left (calls_of (unit_call u r).state rs) in
     record {
-      given = given-append ks ls s step.given rest.given;
-      same = subst (Same b (unit_after n rs)) (sym (after-append ks ls s)) rest.same;
+      given = subst (λ (l : List Call). AtEach Given l s) (sym first) rest.given;
+      same = subst (λ (l : List Call). Same (unit_after (unit_call u r).state rs) (after l s)) (sym first) rest.same;
       answers =
-          ap (λ (l : List Told). l ++ answers_of b n rs) step.answer
-          ∙ ap (λ (l : List Told). map told_by ks ++ l) rest.answers
-          ∙ sym (map-append told_by ks ls);
+          told (told_of (unit_call u r)) (answers_of (unit_call u r).state rs)
+          ∙ rest.answers ∙ ap (map told_by) (sym first);
     }
 
--- the unit after the records
-pub standing-after : {rs : List (List ℕ)} → Records rs → {u : State} → Standing u → Standing (unit_after u rs)
+module _ {u : State} {s : Course} (v : Standing u s) (r : List ℕ) (b : Bytes r) where
+  -- the call of the record, and the course after it; or no call of the course
+  data Next : Type 0 where
+    called : (k : Call) → Stepped s k (unit_call u r) → ((ks : List Call) → call_first (call_of r) u r ks ≡ k ∷ ks) →
+        ((t : Told) (ts : List Told) → answer_first (call_of r) t ts ≡ t ∷ ts) → Next
+    left : ((ks : List Call) → call_first (call_of r) u r ks ≡ ks)
+        → ((t : Told) (ts : List Told) → answer_first (call_of r) t ts ≡ ts) → Standing (unit_call u r).state s → Next
+
+  as-made : (g : Kind) → call_of r ≡ g → (k : Call) → Stepped s k (step_of g u r) →
+      ((ks : List Call) → call_first g u r ks ≡ k ∷ ks) → ((t : Told) (ts : List Told) → answer_first g t ts ≡ t ∷ ts) → Next
+  as-made g e k step first told =
+      called k (subst (Stepped s k) (sym (made v r g e)) step)
+      (λ ks. ap (λ (x : Kind). call_first x u r ks) e ∙ first ks) (λ t ts. ap (λ (x : Kind). answer_first x t ts) e ∙ told t ts)
+
+  as-left : (g : Kind) → call_of r ≡ g → Standing (step_of g u r).state s → ((ks : List Call) → call_first g u r ks ≡ ks)
+      → ((t : Told) (ts : List Told) → answer_first g t ts ≡ ts) → Next
+  as-left g e stands first-left told =
+      left (λ ks. ap (λ (x : Kind). call_first x u r ks) e ∙ first-left ks) (λ t ts. ap (λ (x : Kind). answer_first x t ts) e ∙ told t ts)
+      (subst (λ (o : UnitCall). Standing o.state s) (sym (made v r g e)) stands)
+
+  value-day-standing : Standing (value_day_step u r).state s
+  unfolding value_day_step
+  value-day-standing = v
+
+  count-standing : Standing (count_step u).state s
+  unfolding count_step
+  count-standing = v
+
+  next-call : (g : Kind) → call_of r ≡ g → is_call g ≡ true → Next
+  next-call kind.Frame e h = as-made kind.Frame e _ (frame_step_lem v r b) (λ ks. refl) (λ t ts. refl)
+  next-call kind.File e h = as-made kind.File e _ (file-step v r b) (λ ks. refl) (λ t ts. refl)
+  next-call (kind.Run x) e h =
+      let inside = run_inside (run_of r) (run-within (run_of r) (run-named r x e)) in
+      as-made (kind.Run x) e _ (run_step_lem v r x inside) (λ ks. refl) (λ t ts. refl)
+  next-call kind.Journal e h =
+      let inside = run_inside (run_of r) (run-within (run_of r) (callable r kind.Journal refl e).within) in
+      as-made kind.Journal e _ (journal-step v r inside) (λ ks. refl) (λ t ts. refl)
+  next-call kind.Away e h = as-made kind.Away e _ (away-step v r) (λ ks. refl) (λ t ts. refl)
+  next-call kind.TakeUp e h = as-made kind.TakeUp e _ (taken_step v r) (λ ks. refl) (λ t ts. refl)
+  next-call kind.Image e h = as-left kind.Image e (image-standing v r b e) (λ ks. refl) (λ t ts. refl)
+  next-call kind.ValueDay e h = as-left kind.ValueDay e value-day-standing (λ ks. refl) (λ t ts. refl)
+  next-call kind.MakeLine e h = as-left kind.MakeLine e (make-standing v r e) (λ ks. refl) (λ t ts. refl)
+  next-call kind.PutIn e h = as-left kind.PutIn e (put-in-standing v r e) (λ ks. refl) (λ t ts. refl)
+  next-call kind.Counts e h = as-left kind.Counts e count-standing (λ ks. refl) (λ t ts. refl)
+  next-call kind.NoCall e h = never h
+
+is-course : {rs : List (List ℕ)} → Records rs → {u : State} {s : Course} → Standing u s → IsCourse u rs s
+unfolding calls_of unit_after answers_of after
+is-course none v = record { given = tt; same = same v; answers = refl }
+is-course (more {r = r} {rs = rs} b h more-records) {u} {s} v =
+    at (λ n t stands. is-course more-records stands) (next-call v r b (call_of r) refl h)
+  where
+    at : ((n : State) (t : Course) → Standing n t → IsCourse n rs t) → Next v r b → IsCourse u (r ∷ rs) s
+    at rest (called k step first told) = joined u r rs k step first told (rest _ _ step.standing)
+    at rest (left first told stands) = beside u s r rs first told (rest _ _ stands)
+
+-- the unit after the records still stands for a course
+pub standing-after : {rs : List (List ℕ)} → Records rs → {u : State} {s : Course} → Standing u s →
+    (t : Course) × Standing (unit_after u rs) t
 unfolding unit_after
-standing-after none v = v
-standing-after (more {r = r} bytes c records) v = standing-after records (next v r bytes c).standing
+standing-after none {u} {s} v = (s, v)
+standing-after (more {r = r} {rs = rs} b h more-records) {u} {s} v =
+    at (λ n t stands. standing-after more-records stands) (next-call v r b (call_of r) refl h)
+  where
+    at : ((n : State) (t : Course) → Standing n t → (x : Course) × Standing (unit_after n rs) x) → Next v r b →
+        (x : Course) × Standing (unit_after (unit_call u r).state rs) x
+    at rest (called k step first told) = rest _ _ step.standing
+    at rest (left first told stands) = rest _ _ stands
 
 pub sessions : Sessions
 unfolding Sessions
-sessions b inside rs records = is-course records fresh-standing b inside (fresh-same b inside)
-
-pub runs-owned : RunsOwned
-unfolding RunsOwned
-runs-owned rs records i h e = at ((standing-after records fresh-standing).runs.each i h) e
-  where
-    at : {c : ClientRun} → Stands c → is_begun c.stage ≡ true → (b : ℕ) × (b < banks) × (is_own b c ≡ true)
-    at (unbegun n) e = never (sym (ap (λ (x : ClientRun). is_begun x.stage) n) ∙ e)
-    at {c} (begun _ k) e =
-        let n = c.terms.bank in
-        (n - 1, named-inside n k, rw (k, eq-eqb (n - 1) (n - 1) refl))
+sessions rs records = is-course records fresh-standing

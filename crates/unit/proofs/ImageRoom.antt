@@ -7,17 +7,17 @@ use native.Mathlib.Omega.{arith}
 use lib.ListN.{length, take, drop}
 use borrow.Author.Tests.{leb-true}
 use Rattle.octets.specs.Bytes.{overwrite}
-use Rattle.banks.specs.declared.images.BankAway.{BankAway}
-use Rattle.banks.specs.Banks.{LentBanks}
-use Rattle.banks.specs.Images.{bank_put_away_of, banks_put_away}
+use Rattle.bank_steps.specs.Lent.{Lent}
+use Rattle.image_calls.specs.declared.calls.Away as put-away
+use Rattle.image_calls.specs.Calls.{put_away_of, put_away}
 use Rattle.unit_state.specs.declared.record.Kind.{Kind}
 use Rattle.unit_state.specs.declared.record.Kind.TheVariants as kind
 use Rattle.unit_state.specs.declared.answer.Answer.{Answer}
 use Rattle.unit_state.specs.declared.state.UnitState.{UnitState}
-use Rattle.unit_state.specs.Records.{bank_named, lent_length_of, offset_of, size_of, room_bytes, call_of}
+use Rattle.unit_state.specs.Records.{lent_length_of, offset_of, size_of, room_bytes, call_of}
 use Rattle.unit_rows.specs.Lines.{Lines}
-use Rattle.unit.specs.State.{memory, state_of}
-use Rattle.unit.specs.Call.{after_call, bank_away_answer, away_step}
+use Rattle.unit.specs.State.{memory, state_of, session_in}
+use Rattle.unit.specs.Call.{after_call, away_answer, away_step}
 use Rattle.unit_state.proofs.Parts.{callable}
 
 -- the bytes of the image room that a record names are there
@@ -37,11 +37,10 @@ front-back : (room x : List ℕ) (n : ℕ) → length x ≡ n → x ++ drop n ro
 unfolding overwrite
 front-back room x n e = rw (zero-add, e)
 
--- a bank's session put away into the front of the room
-pub away-left : (u : UnitState) (banks : LentBanks) (p f b room : List ℕ) (l : Lines) (r x : List ℕ) (n bank : ℕ)
-    (out : BankAway) (answer : Answer)
-    → n ≡ lent_length_of r → bank ≡ bank_named r → length x ≡ n
-    → bank_put_away_of out x ≡ banks_put_away banks bank (take n room) → answer ≡ bank_away_answer out
-    → after_call u (memory banks p f b (x ++ drop n room) l) answer ≡ away_step (state_of u (memory banks p f b room l)) r
+-- the session put away into the front of the room
+pub away-left : (u : UnitState) (bank : Lent) (p f b room : List ℕ) (l : Lines) (r x : List ℕ) (n : ℕ) (out : put-away.Away) (answer : Answer)
+    → n ≡ lent_length_of r → length x ≡ n
+    → put_away_of out x ≡ put_away (session_in (state_of u (memory bank p f b room l))) (take n room) → answer ≡ away_answer out
+    → after_call u (memory bank p f b (x ++ drop n room) l) answer ≡ away_step (state_of u (memory bank p f b room l)) r
 unfolding away_step
-away-left u banks p f b room l r x n bank out answer en eb ex eo ea = rw (front-back room x n ex, ea, ← en, ← eb, ← eo)
+away-left u bank p f b room l r x n out answer en ex eo ea = rw (front-back room x n ex, ea, ← en, ← eo)

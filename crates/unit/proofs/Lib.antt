@@ -1,6 +1,6 @@
 -- The laws that several proofs cite.
-pub mod Rooms
-pub mod Journals
+pub mod Begins
 pub mod Steps
 pub mod ImageRoom
 pub mod LineSteps
+pub mod Named

@@ -4,7 +4,7 @@ use mathlib.Core.Bool.{Bool, true, false, not}
 use mathlib.Core.List.{List}
 use mathlib.Core.Path.{◌≡◌, refl, sym, ◌∙◌}
 use borrow.Author.Tests.{not-true, not-false}
-use Rattle.banks.specs.Banks.{LentBanks}
+use Rattle.bank_steps.specs.Lent.{Lent}
 use Rattle.line.specs.declared.calls.MakeAnswer.{MakeAnswer}
 use Rattle.line.specs.declared.calls.PutAnswer.{PutAnswer}
 use Rattle.unit_state.specs.declared.record.Kind.{Kind}
@@ -25,11 +25,11 @@ line-made-named r k ek told = (callable r kind.MakeLine refl (sym ek ∙ told)).
 pub line-put-named : (r : List ℕ) (k : Kind) → k ≡ call_of r → k ≡ kind.PutIn → is_line (line_of r) ≡ true
 line-put-named r k ek told = (callable r kind.PutIn refl (sym ek ∙ told)).within
 
-module _ (u : UnitState) (banks : LentBanks) (p f b room : List ℕ) (l : Lines) (r : List ℕ) (i : ℕ) (at : i ≡ line_index r) where
+module _ (u : UnitState) (bank : Lent) (p f b room : List ℕ) (l : Lines) (r : List ℕ) (i : ℕ) (at : i ≡ line_index r) where
   -- the line is made
   pub line_made : (l' : Lines) (seed : ℕ) (a : MakeAnswer) (answer : Answer)
       → seed ≡ seed_of r → made_at_of a l' ≡ made_at l i seed → answer ≡ line_answer a
-      → after_call u (memory banks p f b room l') answer ≡ make_step (state_of u (memory banks p f b room l)) r
+      → after_call u (memory bank p f b room l') answer ≡ make_step (state_of u (memory bank p f b room l)) r
   unfolding make_step
   line_made l' seed a answer es em ea = rw (ea, ← at, ← es, ← em)
 
@@ -37,12 +37,12 @@ module _ (u : UnitState) (banks : LentBanks) (p f b room : List ℕ) (l : Lines)
     -- the message is put in
     pub message-put : (l' : Lines) (b' body : List ℕ) (a : PutAnswer) (answer : Answer)
         → not t ≡ false → body ≡ body_of kind.PutIn r → put_at_of a l' b' ≡ put_at l i body b → answer ≡ out_answer a
-        → after_call u (memory banks p f b' room l') answer ≡ put_in_step (state_of u (memory banks p f b room l)) r
+        → after_call u (memory bank p f b' room l') answer ≡ put_in_step (state_of u (memory bank p f b room l)) r
     unfolding put_in_step put_step
     message-put l' b' body a answer h ey ep ea = rw (ea, ← at, ← et, not-false t h, ← ey, ← ep)
 
     -- the line is not made
     pub not_made : not t ≡ true
-        → after_call u (memory banks p f b room l) NoCall ≡ put_in_step (state_of u (memory banks p f b room l)) r
+        → after_call u (memory bank p f b room l) NoCall ≡ put_in_step (state_of u (memory bank p f b room l)) r
     unfolding put_in_step
     not_made h = rw (← at, ← et, not-true t h)

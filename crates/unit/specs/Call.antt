@@ -1,7 +1,6 @@
 -- One call of a record on the unit.
-use Rattle.std.specs.Prelude.{ℕ, ◌-◌, Bool, cond, ◌&&◌, List, eqb, leb, length, take}
+use Rattle.std.specs.Prelude.{ℕ, ◌-◌, ◌≤◌, ◌≡◌, Bool, true, false, cond, ◌&&◌, List, eqb, length, take}
 use Rattle.octets.specs.Bytes.{overwrite}
-use Rattle.message.specs.Limits.{banks}
 use Rattle.calendar.specs.declared.value_day.ValueDay.{ValueDay}
 use Rattle.calendar.specs.declared.value_day.ValueDay.TheVariants as value
 use Rattle.calendar.specs.ValueDay.{value_day, answered}
@@ -10,39 +9,46 @@ use Rattle.line.specs.declared.calls.MakeAnswer.TheVariants as make
 use Rattle.line.specs.declared.calls.PutAnswer.{PutAnswer}
 use Rattle.line.specs.declared.calls.PutAnswer.TheVariants as put-answer
 use Rattle.line.specs.Calls.{make_number, put_number}
+use Rattle.bank_state.specs.Store.{part_at, with_part, file_of}
 use Rattle.bank.specs.declared.call.FrameAnswer.{FrameAnswer}
 use Rattle.bank.specs.declared.call.FrameAnswer.TheVariants as frame-answer
 use Rattle.bank.specs.declared.mailbox.FileAnswer.{FileAnswer}
 use Rattle.bank.specs.declared.mailbox.FileAnswer.TheVariants as file-answer
-use Rattle.bank.specs.Call.{frame_number}
+use Rattle.bank.specs.Call.{frame_input, frame_number}
+use Rattle.bank_steps.specs.Lent.{lent}
 use Rattle.bank.specs.Mailbox.{file_number}
 use Rattle.bank_session.specs.declared.report.CountAnswer.{CountAnswer}
 use Rattle.bank_session.specs.declared.report.CountAnswer.TheVariants as count-answer
-use Rattle.bank_session.specs.Session.{count_number}
+use Rattle.bank_session.specs.Session.{session_frame_call, session_file_call, count_call, count_number}
 use Rattle.image_calls.specs.declared.calls.Away as put-away
 use Rattle.image_calls.specs.declared.calls.Away.TheVariants as away
 use Rattle.image_calls.specs.declared.calls.TakenUp as taken-up
 use Rattle.image_calls.specs.declared.calls.TakenUp.TheVariants as up
-use Rattle.image_calls.specs.Calls.{away_number, taken_up_number}
-use Rattle.banks.specs.declared.host.BankFile.{BankFile}
-use Rattle.banks.specs.declared.host.BankFile.TheVariants as bank-file
-use Rattle.banks.specs.declared.host.BankCounts.{BankCounts}
-use Rattle.banks.specs.declared.host.BankCounts.TheVariants as bank-counts
-use Rattle.banks.specs.Banks.{lent_banks, journal_at}
-use Rattle.banks.specs.Frames.{arrival, banks_frame_call}
-use Rattle.banks.specs.Host.{bank_file_number, banks_file_call, bank_count_number, banks_count_call}
-use Rattle.banks.specs.declared.images.BankAway.{BankAway}
-use Rattle.banks.specs.declared.images.BankAway.TheVariants as bank-away
-use Rattle.banks.specs.declared.images.BankTakenUp.{BankTakenUp}
-use Rattle.banks.specs.declared.images.BankTakenUp.TheVariants as bank-up
-use Rattle.banks.specs.Images.{bank_away_number, banks_put_away, bank_taken_up_number, banks_take_up}
+use Rattle.image_calls.specs.Calls.{away_number, put_away, taken_up_number, take_up}
+use Rattle.client_run.specs.declared.run.Answer as client
+use Rattle.client_run.specs.declared.run.Answer.TheVariants as client-answer
+use Rattle.client_run.specs.declared.run.ClientRun.{ClientRun}
+use Rattle.client_run.specs.declared.run.Direction.{Direction}
+use Rattle.client_run.specs.declared.run.Direction.TheVariants as direction
+use Rattle.client_run.specs.declared.run.RunParameters.{RunParameters}
+use Rattle.client_run.specs.declared.run.RunTerms.{RunTerms}
+use Rattle.client_run.specs.Run.{Lent, ClientCall, terms_of25, parameters_of, lent_of, refusal_number, order_name}
+use Rattle.client.specs.Calls.{begin_call, reply_call, no_reply_call}
+use Rattle.client.specs.declared.journal_call.JournalAnswer.{JournalAnswer}
+use Rattle.client.specs.declared.journal_call.JournalAnswer.TheVariants as journal-answer
+use Rattle.client.specs.Journal.{journal_number, journal_call}
 use Rattle.unit_state.specs.declared.record.Event.{Event}
+use Rattle.unit_state.specs.declared.record.Event.TheVariants.{Upload, Download, Reply, NoReply}
 use Rattle.unit_state.specs.declared.record.Kind.{Kind}
 use Rattle.unit_state.specs.declared.record.Kind.TheVariants as kind
 use Rattle.unit_state.specs.declared.answer.Answer.{Answer}
 use Rattle.unit_state.specs.declared.answer.Answer.TheVariants.{
   Frame,
   Put,
+  Request,
+  Ignored,
+  Closed,
+  Unchanged,
   Away,
   TakenUp,
   Room,
@@ -54,32 +60,48 @@ use Rattle.unit_state.specs.declared.answer.Answer.TheVariants.{
   Number,
   NoCall,
 }
+use Rattle.unit.specs.declared.call.RunOut.{RunOut}
+use Rattle.unit_state.specs.declared.state.Run.{Run}
 use Rattle.unit_state.specs.declared.state.UnitState.{UnitState}
 use Rattle.unit_state.specs.Records.{
+  head_of,
   bank_time_of,
   ids_of,
-  bank_named,
   mailbox_of,
-  journal_bank_of,
+  run_of,
+  time_of,
+  subscriber_of,
+  first_of,
+  nonce_of,
+  edition_in,
+  order_of,
   lent_length_of,
   offset_of,
   booking_time_of,
   line_of,
   seed_of,
   body_of,
+  is_run,
+  edition_of,
   room_bytes,
   call_of,
 }
-use Rattle.unit_state.specs.State.{rooms_bytes, run_at, with_run}
-use Rattle.unit_clients.specs.Clients.{index_of, run_call, handed_run}
+use Rattle.unit_state.specs.State.{rooms_bytes, run_at, with_run, with_journal}
 use Rattle.unit_rows.specs.Lines.{lines_size, stores_bytes, row_at, is_made, made_at, put_at}
-use Rattle.unit.specs.State.{Memory, State, memory, with_banks, with_room, state_of}
+use Rattle.unit.specs.State.{Memory, State, memory, state_of, session_in}
 
 -- the rooms lent for the runs, for images and for the lines are of their lengths
 unfoldable pub rooms_right : ℕ → ℕ → ℕ → ℕ → ℕ → Bool
 rooms_right payloads files room lines stores =
     eqb payloads rooms_bytes
     && (eqb files rooms_bytes && (eqb room room_bytes && (eqb lines lines_size && eqb stores stores_bytes)))
+
+-- what a call to a run asks: a record that names one of the runs and has its head, and rooms of their lengths
+pub record Ready (e : Event) (r payloads files : List ℕ) : Type 0 where
+  pub run : is_run (run_of r) ≡ true
+  pub head : head_of (kind.Run e) ≤ length r
+  pub payload-rooms : length payloads ≡ rooms_bytes
+  pub file-rooms : length files ≡ rooms_bytes
 
 -- what a call leaves, and its answer
 pub record UnitCall : Type 0 where
@@ -89,7 +111,8 @@ pub record UnitCall : Type 0 where
 abbrev pub after_call : UnitState → Memory → Answer → UnitCall
 after_call u m a = record { state = state_of u m; answer = a }
 
--- the answers of a bank's two calls
+-- the answers of the bank's two calls, of a client's, and of the journal handed to it; a run that ends as lodged names
+-- its order: "subscriber, type and number together"
 abbrev pub frame_answer : FrameAnswer → Answer
 frame_answer (frame-answer.Reply n) = Frame n
 frame_answer frame-answer.WrongLength = Number (frame_number frame-answer.WrongLength)
@@ -101,10 +124,16 @@ file_answer file-answer.NoMailbox = Number (file_number file-answer.NoMailbox)
 file_answer file-answer.WrongFile = Number (file_number file-answer.WrongFile)
 file_answer file-answer.MailboxFull = Number (file_number file-answer.MailboxFull)
 
--- "It refuses a bank outside 1 to 4 with ... number 2 to the host"
-abbrev pub bank_file_answer : BankFile → Answer
-bank_file_answer bank-file.NoBank = Number (bank_file_number bank-file.NoBank)
-bank_file_answer (bank-file.Of a) = file_answer a
+abbrev pub run_answer : client.Answer → ClientRun → Answer
+run_answer (client-answer.Request n) c = Request n
+run_answer client-answer.Ignored c = Ignored
+run_answer (client-answer.Closed w) c = Closed w (order_name c)
+run_answer (client-answer.Refused x) c = Number (refusal_number x)
+
+abbrev pub journal_answer : JournalAnswer → ClientRun → Answer
+journal_answer (journal-answer.Closed w) c = Closed w (order_name c)
+journal_answer journal-answer.Unchanged c = Unchanged
+journal_answer journal-answer.WrongLength c = Number (journal_number journal-answer.WrongLength)
 
 -- the answers of putting away, with the image's length, and of taking up
 abbrev pub away_answer : put-away.Away → Answer
@@ -117,16 +146,6 @@ taken_up_answer up.Done = TakenUp
 taken_up_answer up.WrongLength = Number (taken_up_number up.WrongLength)
 taken_up_answer up.NotAdmitted = Number (taken_up_number up.NotAdmitted)
 
-abbrev pub bank_away_answer : BankAway → Answer
-bank_away_answer bank-away.NoBank = Number (bank_away_number bank-away.NoBank)
-bank_away_answer (bank-away.Of a) = away_answer a
-
--- "with number 12, after 9, an image that would lift that sum above 16"
-abbrev pub bank_taken_up_answer : BankTakenUp → Answer
-bank_taken_up_answer bank-up.NoBank = Number (bank_taken_up_number bank-up.NoBank)
-bank_taken_up_answer bank-up.TooManyOpen = Number (bank_taken_up_number bank-up.TooManyOpen)
-bank_taken_up_answer (bank-up.Of a) = taken_up_answer a
-
 -- the answer of a value day
 abbrev pub value_day_answer : ValueDay → Answer
 value_day_answer (value.Day d) = Day d
@@ -136,10 +155,6 @@ value_day_answer value.TooLate = Number (answered value.TooLate).number
 abbrev pub count_answer : CountAnswer → Answer
 count_answer (count-answer.Counted c) = Counted c
 count_answer count-answer.WrongLength = Number (count_number count-answer.WrongLength)
-
-abbrev pub bank_count_answer : BankCounts → Answer
-bank_count_answer bank-counts.NoBank = Number (bank_count_number bank-counts.NoBank)
-bank_count_answer (bank-counts.Of a) = count_answer a
 
 -- the answers of making a line, and of putting a message in
 abbrev pub line_answer : MakeAnswer → Answer
@@ -152,61 +167,139 @@ out_answer (put-answer.Out copies) = Out copies
 out_answer (put-answer.OutAndHeld copies n) = OutAndHeld copies n
 out_answer put-answer.WrongLength = Number (put_number put-answer.WrongLength)
 
--- `F`: a frame, to the bank that it names
+-- `F`: a frame to the bank
 unfoldable pub frame_step : State → List ℕ → UnitCall
 frame_step s r =
     let m = s.memory in
-    let o = banks_frame_call m.banks (arrival (bank_time_of r) (ids_of r) (body_of kind.Frame r) m.buffer) in
-    after_call s.unit (memory o.memory m.payloads m.files o.buffer m.room m.lines)
-    (frame_answer o.answer)
+    let o = session_frame_call (session_in s) (frame_input (bank_time_of r) (ids_of r) (body_of kind.Frame r) m.buffer) in
+    let bank = lent o.session.rows o.session.orders o.session.mailboxes in
+    after_call (with_journal s.unit o.session.row)
+    (memory bank m.payloads m.files o.buffer m.room m.lines) (frame_answer o.answer)
 
--- `M`: a file into a mailbox of the bank that the record names
+-- `M`: a file into a mailbox
 unfoldable pub file_step : State → List ℕ → UnitCall
 file_step s r =
     let m = s.memory in
-    let u = m.banks in
-    let o = banks_file_call u.rows (bank_named r) (mailbox_of r) (body_of kind.File r) u.mailboxes in
-    after_call s.unit (with_banks m (lent_banks o.rows u.journals u.orders o.mailboxes))
-    (bank_file_answer o.answer)
+    let o = session_file_call m.bank.rows (mailbox_of r) (body_of kind.File r) m.bank.mailboxes in
+    let bank = lent o.rows m.bank.orders o.mailboxes in
+    after_call s.unit (memory bank m.payloads m.files m.buffer m.room m.lines) (file_answer o.answer)
+
+-- the run that a record names, from 0 on
+abbrev pub index_of : List ℕ → ℕ
+index_of r = run_of r - 1
+
+-- whether an event begins its run
+abbrev pub begins : Event → Bool
+begins Upload = true
+begins Download = true
+begins Reply = false
+begins NoReply = false
+
+-- the terms that the record r brings: an upload's edition and order number; a download's record has none
+abbrev pub terms_of : Direction → List ℕ → RunTerms
+terms_of direction.Upload r = record { edition = edition_of (edition_in r); number = order_of r }
+terms_of direction.Download r = terms_of25
+
+-- what the record r begins its run with
+abbrev pub params_of : Direction → List ℕ → RunParameters
+params_of way r = parameters_of way (subscriber_of r) (first_of r) (terms_of way r)
+
+-- "begin, as an upload", "begin, as a download", "reply arrived", "no reply": a client's call by the event of the
+-- record r
+abbrev pub event_call : Event → ClientRun → List ℕ → Lent → ClientCall
+event_call Upload c r l = begin_call c (params_of direction.Upload r) l
+event_call Download c r l = begin_call c (params_of direction.Download r) l
+event_call Reply c r l = reply_call c (body_of (kind.Run Reply) r) l
+event_call NoReply c r l = no_reply_call c l
+
+-- the same where the file buffers of all runs are lent, of which the client has that of run i
+unfoldable pub room_call : Event → ClientRun → ℕ → List ℕ → Lent → ClientCall
+room_call e c i r l =
+    let o = event_call e c r (lent_of l.time l.nonce l.payload (part_at l.file i) l.request) in
+    record {
+      run = o.run;
+      file = with_part l.file i o.file;
+      request = o.request;
+      answer = o.answer;
+      number =
+          o.number;
+    }
+
+-- "A begin that is given a number leaves the run's payload and nonce bytes as they were; one that is not keeps them"
+abbrev pub keeps : Bool → client.Answer → Bool
+keeps begin (client-answer.Request n) = begin
+keeps begin client-answer.Ignored = begin
+keeps begin (client-answer.Closed w) = begin
+keeps begin (client-answer.Refused x) = false
+
+abbrev pub with_client : Run → ClientRun → Run
+with_client run next = record { client = record { run = next }; nonce = run.nonce; payload = run.payload }
+
+abbrev pub next_run : Bool → Run → ClientRun → List ℕ → ℕ → Run
+next_run true run next nonce n = record { client = record { run = next }; nonce = nonce; payload = n }
+next_run false run next nonce n = with_client run next
+
+abbrev pub kept_payloads : Bool → List ℕ → ℕ → List ℕ → List ℕ
+kept_payloads true payloads i payload = with_part payloads i payload
+kept_payloads false payloads i payload = payloads
+
+-- what a call leaves of its run, and its answer
+pub record RunCall : Type 0 where
+  pub run : Run
+  pub memory : Memory
+  pub answer : Answer
+
+abbrev pub run_call_of : RunOut → Memory → RunCall
+run_call_of r m = record { run = r.run; memory = m; answer = r.answer }
+
+-- run i: a begin with the record's nonce bytes and payload, a later call with those kept
+unfoldable pub run_call : Event → ℕ → Run → Memory → List ℕ → RunCall
+run_call e i run m r =
+    let body = body_of (kind.Run e) r in
+    let nonce = cond (begins e) (nonce_of r) run.nonce in
+    let payload = cond (begins e) body (file_of m.payloads i run.payload) in
+    let o = room_call e run.client.run i r (lent_of (time_of r) nonce payload m.files m.buffer) in
+    let kept = keeps (begins e) o.answer in
+    record {
+      run = next_run kept run o.run nonce (length body);
+      memory = memory m.bank (kept_payloads kept m.payloads i body) o.file o.request m.room m.lines;
+      answer = run_answer o.answer o.run;
+    }
 
 -- `U`, `D`, `R`, `N`: the run is taken out, called, and put back
 unfoldable pub run_step : Event → State → List ℕ → UnitCall
 run_step e s r =
     let i = index_of r in
-    let m = s.memory in
-    let o = run_call e i (run_at s.unit.runs i) m.payloads m.files m.buffer r in
-    after_call (with_run s.unit i o.run)
-    (memory m.banks o.payloads o.files o.buffer m.room m.lines) o.answer
+    let o = run_call e i (run_at s.unit.runs i) s.memory r in
+    after_call (with_run s.unit i o.run) o.memory o.answer
 
--- the bank whose journal a record names, from 0 on
-abbrev pub journal_index : List ℕ → ℕ
-journal_index r = journal_bank_of r - 1
-
--- `J`: "the journal, as the bank last left it, to a run": that of the "bank whose journal is handed over"
+-- `J`: "the journal, as the bank last left it, to a run"
 unfoldable pub journal_step : State → List ℕ → UnitCall
 journal_step s r =
     let i = index_of r in
-    let o = handed_run (run_at s.unit.runs i) (journal_at (journal_index r) s.memory.banks.journals) in
-    after_call (with_run s.unit i o.run) s.memory o.answer
+    let run = run_at s.unit.runs i in
+    let o = journal_call run.client.run s.unit.journal in
+    after_call (with_run s.unit i (with_client run o.run)) s.memory (journal_answer o.answer o.run)
 
--- where a bank's journal stands, from 0 on; of a bank that there is not the nearest, whose row is not looked at
-abbrev pub place_of : ℕ → ℕ
-place_of bank = cond (leb banks (bank - 1)) (banks - 1) (bank - 1)
+-- the memory with this image room
+abbrev pub with_room : Memory → List ℕ → Memory
+with_room m room = memory m.bank m.payloads m.files m.buffer room m.lines
 
--- `P`: "the session is put away into the first that many bytes of the image room", that of the bank that the record
--- names
+-- `P`: "the session is put away into the first that many bytes of the image room"
 unfoldable pub away_step : State → List ℕ → UnitCall
 away_step s r =
     let m = s.memory in
-    let o = banks_put_away m.banks (bank_named r) (take (lent_length_of r) m.room) in
-    after_call s.unit (with_room m (overwrite m.room 0 o.buffer)) (bank_away_answer o.answer)
+    let o = put_away (session_in s) (take (lent_length_of r) m.room) in
+    after_call s.unit (with_room m (overwrite m.room 0 o.buffer)) (away_answer o.answer)
 
--- `T`: "the first that many bytes of the image room are taken up", as the session of the bank that the record names
+-- `T`: "the first that many bytes of the image room are taken up"
 unfoldable pub take_up_step : State → List ℕ → UnitCall
 take_up_step s r =
     let m = s.memory in
-    let o = banks_take_up m.banks (bank_named r) (take (lent_length_of r) m.room) in
-    after_call s.unit (with_banks m o.memory) (bank_taken_up_answer o.answer)
+    let o = take_up (session_in s) (take (lent_length_of r) m.room) in
+    let bank = lent o.session.rows o.session.orders o.session.mailboxes in
+    after_call (with_journal s.unit o.session.row)
+    (memory bank m.payloads m.files m.buffer m.room m.lines) (taken_up_answer o.answer)
 
 -- `I`: "these bytes into the image room at that offset (the host's own doing, no call of the unit)"
 unfoldable pub image_step : State → List ℕ → UnitCall
@@ -231,7 +324,7 @@ unfoldable pub make_step : State → List ℕ → UnitCall
 make_step s r =
     let m = s.memory in
     let o = made_at m.lines (line_index r) (seed_of r) in
-    after_call s.unit (memory m.banks m.payloads m.files m.buffer m.room o.lines)
+    after_call s.unit (memory m.bank m.payloads m.files m.buffer m.room o.lines)
     (line_answer o.answer)
 
 -- `W`: "the message is put into that line"; what comes out stands in the buffer and "goes nowhere by itself"
@@ -239,7 +332,7 @@ unfoldable pub put_step : State → List ℕ → UnitCall
 put_step s r =
     let m = s.memory in
     let o = put_at m.lines (line_index r) (body_of kind.PutIn r) m.buffer in
-    after_call s.unit (memory m.banks m.payloads m.files o.buffer m.room o.lines)
+    after_call s.unit (memory m.bank m.payloads m.files o.buffer m.room o.lines)
     (out_answer o.answer)
 
 -- "a `W` to a line not made" is no call
@@ -247,9 +340,9 @@ unfoldable pub put_in_step : State → List ℕ → UnitCall
 put_in_step s r =
     cond (is_made (row_at s.memory.lines.rows (line_index r))) (put_step s r) (unchanged s NoCall)
 
--- `C`: "the seven counts" of the bank that the record names
-unfoldable pub count_step : State → List ℕ → UnitCall
-count_step s r = unchanged s (bank_count_answer (banks_count_call s.memory.banks.rows (bank_named r)))
+-- `C`: "the seven counts"
+unfoldable pub count_step : State → UnitCall
+count_step s = unchanged s (count_answer (count_call s.memory.bank.rows))
 
 abbrev pub step_of : Kind → State → List ℕ → UnitCall
 step_of kind.Frame s r = frame_step s r
@@ -262,7 +355,7 @@ step_of kind.Image s r = image_step s r
 step_of kind.ValueDay s r = value_day_step s r
 step_of kind.MakeLine s r = make_step s r
 step_of kind.PutIn s r = put_in_step s r
-step_of kind.Counts s r = count_step s r
+step_of kind.Counts s r = count_step s
 step_of kind.NoCall s r = unchanged s NoCall
 
 -- the rooms of this memory are of their lengths

@@ -1,43 +1,64 @@
 // One call of a record on the unit.
-ghost use Rattle.std.specs.Prelude.{◌≡◌, true, List, ℕ, ◌<◌, length};
-ghost use Rattle.message.specs.Limits.{banks, is_bank};
+ghost use Rattle.std.specs.Prelude.{◌≡◌, true, cond, List, ℕ, ◌≤◌, ◌<◌, length};
+ghost use Rattle.message.specs.Limits.{file_bytes};
 ghost use Rattle.calendar.specs.ValueDay.{value_day};
-ghost use Rattle.banks.specs.Banks.{Journals, LentBanks, lent_banks};
-ghost use Rattle.banks.specs.Host.{banks_count_call};
-ghost use Rattle.unit_state.specs.Records.{bank_named, run_of, journal_bank_of, booking_time_of, is_run};
+ghost use Rattle.bank_steps.specs.Lent.{Lent, lent};
+ghost use Rattle.bank_session.specs.Session.{count_call};
+ghost use Rattle.client_run.specs.Run.{lent_of};
+ghost use Rattle.client.specs.Calls.{call_of, begin_call};
+ghost use Rattle.unit_state.specs.Records.{head_of, time_of, nonce_of, booking_time_of, run_of, is_run, run_count};
+ghost use Rattle.journal.specs.declared.event.Event as row-event;
+ghost use Rattle.unit_state.specs.declared.state.Run.{Run};
 ghost use Rattle.unit_state.specs.declared.state.UnitState.{UnitState};
-ghost use Rattle.unit_rows.specs.Rows.{journals_from, unit_from};
+ghost use Rattle.unit_state.specs.State.{rooms_bytes, unit_of};
+ghost use Rattle.unit_rows.specs.Rows.{runs_from, journal_from, unit_from};
 ghost use Rattle.unit_rows.specs.Lines.{Lines, lines_of};
-ghost use Rattle.unit_clients.specs.Clients.{Ready};
-ghost use Rattle.unit.specs.State.{all_records, memory, state_of};
-ghost use Rattle.unit.specs.Call.{rooms_right, after_call, frame_answer, file_answer, bank_file_answer, value_day_answer};
-ghost use Rattle.unit.specs.Call.{count_answer, bank_count_answer, frame_step, file_step, run_step, journal_index};
-ghost use Rattle.unit.specs.Call.{journal_step, unit_call};
+ghost use Rattle.unit.specs.State.{Memory, memory, state_of};
+ghost use Rattle.unit.specs.Call.{Ready, rooms_right, after_call, frame_answer, file_answer, run_answer};
+ghost use Rattle.unit.specs.Call.{journal_answer, frame_step, file_step, index_of, begins, terms_of, params_of};
+ghost use Rattle.unit.specs.Call.{event_call, room_call, keeps, with_client, next_run, kept_payloads, run_call_of, run_call};
+ghost use Rattle.unit.specs.Call.{run_step, journal_step, value_day_answer, count_answer, unit_call};
 
 use crate::images::{away_call, image_call, take_up_call};
 use crate::lines::{make_call, put_in_call};
 use bank::call::FrameAnswer;
 use bank::mailbox::FileAnswer;
-use bank_session::report::CountAnswer;
+use bank_session::calls::{frame_core, put_file};
+use bank_session::report::{CountAnswer, count_openings};
 use bank_state::limits::ID_BYTES;
-use banks::frames::frame_core;
-use banks::host::{BankCounts, BankFile, count_openings, put_file};
-use banks::sizes::Records;
+use bank_state::store::{append, file_of};
 use calendar::value_day::{ValueDay, value_day};
+use client::calls::{Client, Outcome};
+use client::journal_call::JournalAnswer;
+use client_run::run::{
+    Answer as ClientAnswer, Direction, NONCE_BYTES, RunParameters, RunTerms, order_name,
+    refusal_number,
+};
 use journal::event::RECORD_COUNT;
+use message::editions::Edition;
+use message::limits::FILE_BYTES;
 use number_table::table::{MAILBOX_FULL, NO_MAILBOX, TOO_LATE, WRONG_FILE, WRONG_LENGTH};
-use unit_clients::clients::{index_of, journal_event, run_event};
-use unit_rows::journals::{JOURNALS_SIZE, enter_in, journal_in};
+use octets::bytes::copy;
+use unit_rows::events::{ROW_SIZE, enter, journal_of};
 use unit_rows::lines::{LINES_SIZE, STORES_BYTES};
 use unit_rows::runs::{NONCES_SIZE, RUNS_SIZE, run_at, set_run};
 use unit_state::answer::Answer;
 use unit_state::record::{
-    BANK_AT, BANK_BYTES, BANK_TIME_AT, BOOKING_AT, Event, IDS_AT, JOURNAL_BANK_AT, Kind,
-    MAILBOX_AT, MAILBOX_BYTES, ROOM_BYTES, TIME_BYTES, body_of, bytes_at, call_of, number_at,
+    BANK_TIME_AT, BOOKING_AT, EDITION_AT, EDITION_BYTES, Event, FIRST_AT, FIRST_BYTES, IDS_AT,
+    Kind, MAILBOX_AT, MAILBOX_BYTES, NONCE_AT, ORDER_AT, ORDER_BYTES, ROOM_BYTES, RUN_BYTES,
+    RUN_NUMBER_AT, SUBSCRIBER_AT, SUBSCRIBER_BYTES, TIME_AT, TIME_BYTES, body_of, bytes_at,
+    call_of, edition_of, number_at,
 };
-use unit_state::state::ROOMS_BYTES;
+use unit_state::state::{ROOMS_BYTES, Run};
 
-// What the banks' answer to a frame says.
+// A run after a call, and the call's answer.
+#[derive(Drop)]
+struct RunOut {
+    pub run: Run,
+    pub answer: Answer,
+}
+
+// What the bank's answer to a frame says.
 fn frame_answer(answer: FrameAnswer) -> Answer
     ensures { result ≡ frame_answer answer }
 {
@@ -47,7 +68,7 @@ fn frame_answer(answer: FrameAnswer) -> Answer
     }
 }
 
-// What a bank's answer to a file says.
+// What the bank's answer to a file says.
 fn file_answer(answer: FileAnswer) -> Answer
     ensures { result ≡ file_answer answer }
 {
@@ -60,13 +81,26 @@ fn file_answer(answer: FileAnswer) -> Answer
     }
 }
 
-// The same, where there is no such bank too: number 2.
-fn bank_file_answer(answer: BankFile) -> Answer
-    ensures { result ≡ bank_file_answer answer }
+// What a client's answer says.
+fn run_answer(answer: ClientAnswer, client: Client) -> Answer
+    ensures { result ≡ run_answer answer client.run }
 {
     match answer {
-        BankFile::NoBank => Answer::Number(NO_MAILBOX),
-        BankFile::Of(a) => file_answer(a),
+        ClientAnswer::Request(n) => Answer::Request(n),
+        ClientAnswer::Ignored => Answer::Ignored,
+        ClientAnswer::Closed(w) => Answer::Closed(w, order_name(client.run)),
+        ClientAnswer::Refused(x) => Answer::Number(refusal_number(x)),
+    }
+}
+
+// What a client's answer to the journal says.
+fn journal_answer(answer: JournalAnswer, client: Client) -> Answer
+    ensures { result ≡ journal_answer answer client.run }
+{
+    match answer {
+        JournalAnswer::Closed(w) => Answer::Closed(w, order_name(client.run)),
+        JournalAnswer::Unchanged => Answer::Unchanged,
+        JournalAnswer::WrongLength => Answer::Number(WRONG_LENGTH),
     }
 }
 
@@ -97,62 +131,51 @@ fn count_answer(answer: CountAnswer) -> Answer
     }
 }
 
-// The same, where there is no such bank too: number 2.
-fn bank_count_answer(answer: BankCounts) -> Answer
-    ensures { result ≡ bank_count_answer answer }
+// The seven counts of the session.
+fn count_call(rows: &[u64]) -> Answer
+    ensures { result ≡ count_answer (count_call rows.now) }
 {
-    match answer {
-        BankCounts::NoBank => Answer::Number(NO_MAILBOX),
-        BankCounts::Of(a) => count_answer(a),
-    }
+    count_answer(count_openings(rows))
 }
 
-// The lengths of the four journals' rows: 64 records each.
-pub(crate) fn all_records() -> Records
-    ensures { result ≡ all_records }
+// The nonce bytes of a record.
+fn nonce_of(record: &[u8]) -> [u8; NONCE_BYTES]
+    requires { head_of (Kind.Run Event.Download) ≤ length «record».now }
+    ensures { result ≡ nonce_of «record».now }
 {
-    Records {
-        first: RECORD_COUNT,
-        second: RECORD_COUNT,
-        third: RECORD_COUNT,
-        fourth: RECORD_COUNT,
-    }
+    let mut nonce = [0u8; NONCE_BYTES];
+    copy(&mut nonce, 0, bytes_at(record, NONCE_AT, NONCE_BYTES));
+    nonce
 }
 
-// The bank that a call of the host names.
-pub(crate) fn bank_named(record: &[u8]) -> u64
-    ensures { result ≡ bank_named «record».now }
+// The index of the run that a record names.
+fn index_of(record: &[u8]) -> usize
+    requires { is_run (run_of «record».now) ≡ true }
+    ensures { (result ≡ index_of «record».now) × (result < run_count) }
 {
-    number_at(record, BANK_AT, BANK_BYTES)
+    (number_at(record, RUN_NUMBER_AT, RUN_BYTES) - 1) as usize
 }
 
-// The seven counts of the bank that a record names.
-fn count_call(record: &[u8], rows: &[u64]) -> Answer
-    ensures { result ≡ bank_count_answer (banks_count_call rows.now (bank_named «record».now)) }
-{
-    bank_count_answer(count_openings(rows, bank_named(record)))
-}
-
-// A frame to the bank that it names, with that bank's journal; one that names none enters nothing.
+// A frame to the bank, with the unit's journal.
 fn frame_call(
-    journals: &mut [u64; JOURNALS_SIZE],
+    row: &mut [u64; ROW_SIZE],
     record: &[u8],
     rows: &mut [u64],
     orders: &mut [u8],
     mailboxes: &mut [u8],
     buffer: &mut [u8],
 ) -> Answer
-    ensures { (u : UnitState) (p f room : List ℕ) (l : Lines)
-        → after_call u
-        (memory (lent_banks rows.new (journals_from journals.new) orders.new
-        mailboxes.new) p f buffer.new room l) result
-        ≡ frame_step (state_of u
-        (memory (lent_banks rows.old (journals_from journals.old) orders.old
-        mailboxes.old) p f buffer.old room l)) «record».now }
+    ensures { (runs : List Run) (p f room : List ℕ) (l : Lines)
+        → after_call (unit_of runs (journal_from row.new))
+        (memory (lent rows.new orders.new mailboxes.new) p f
+        buffer.new room l) result
+        ≡ frame_step (state_of (unit_of runs (journal_from row.old))
+        (memory (lent rows.old orders.old mailboxes.old) p f
+        buffer.old room l)) «record».now }
 {
     let c = frame_core(
         rows,
-        all_records(),
+        RECORD_COUNT,
         number_at(record, BANK_TIME_AT, TIME_BYTES),
         bytes_at(record, IDS_AT, ID_BYTES),
         body_of(Kind::Frame, record),
@@ -161,27 +184,269 @@ fn frame_call(
         buffer,
     );
     let batch = c.batch;
-    enter_in(journals, c.bank, c.before, c.clock, batch);
+    enter(row, c.before, c.clock, batch);
     let out = c.out;
     let answer = out.answer;
     frame_answer(answer)
 }
 
-// A file into a mailbox of the bank that a record names.
+// A file into a mailbox.
 fn file_call(record: &[u8], rows: &mut [u64], mailboxes: &mut [u8]) -> Answer
-    ensures { (u : UnitState) (j : Journals) (o p f b room : List ℕ) (l : Lines)
-        → after_call u (memory (lent_banks rows.new j o mailboxes.new) p f b room l) result
-        ≡ file_step (state_of u (memory (lent_banks rows.old j o mailboxes.old) p f b room l))
+    ensures { (u : UnitState) (o p f b room : List ℕ) (l : Lines)
+        → after_call u (memory (lent rows.new o mailboxes.new) p f b room l) result
+        ≡ file_step (state_of u (memory (lent rows.old o mailboxes.old) p f b room l))
         «record».now }
 {
     let answer = put_file(
         rows,
-        bank_named(record),
         number_at(record, MAILBOX_AT, MAILBOX_BYTES),
         body_of(Kind::File, record),
         mailboxes,
     );
-    bank_file_answer(answer)
+    file_answer(answer)
+}
+
+// Whether an event begins its run.
+fn begins(event: Event) -> bool
+    ensures { result ≡ begins event }
+{
+    match event {
+        Event::Upload => true,
+        Event::Download => true,
+        Event::Reply => false,
+        Event::NoReply => false,
+    }
+}
+
+// The nonce bytes lent to a call: the record's to a begin, those kept to a later call.
+fn nonce_for(begin: bool, record: &[u8], kept: [u8; NONCE_BYTES]) -> [u8; NONCE_BYTES]
+    requires { begin ≡ true → head_of (Kind.Run Event.Download) ≤ length «record».now }
+    ensures { result ≡ cond begin (nonce_of «record».now) kept }
+{
+    if begin {
+        return nonce_of(record);
+    }
+    kept
+}
+
+// The payload lent to a call: the record's to a begin, the one kept to a later call.
+fn payload_for<'a>(begin: bool, body: &'a [u8], kept: &'a [u8]) -> &'a [u8]
+    ensures { result.now ≡ cond begin body.now kept.now }
+{
+    if begin {
+        return body;
+    }
+    kept
+}
+
+// The terms that a record brings: an upload's edition and order number.
+fn terms_of(direction: Direction, record: &[u8]) -> RunTerms
+    ensures { result ≡ terms_of direction «record».now }
+{
+    match direction {
+        Direction::Upload => RunTerms {
+            edition: edition_of(number_at(record, EDITION_AT, EDITION_BYTES)),
+            number: number_at(record, ORDER_AT, ORDER_BYTES),
+        },
+        Direction::Download => RunTerms {
+            edition: Edition::V25,
+            number: 0,
+        },
+    }
+}
+
+// What a record begins its run with.
+fn params_of(direction: Direction, record: &[u8]) -> RunParameters
+    ensures { result ≡ params_of direction «record».now }
+{
+    RunParameters {
+        direction,
+        subscriber: number_at(record, SUBSCRIBER_AT, SUBSCRIBER_BYTES),
+        first: number_at(record, FIRST_AT, FIRST_BYTES),
+        terms: terms_of(direction, record),
+    }
+}
+
+// Begins a client's run with what the record says.
+fn begin(
+    client: Client,
+    direction: Direction,
+    record: &[u8],
+    nonce: [u8; NONCE_BYTES],
+    payload: &[u8],
+    file: &mut [u8],
+    buffer: &mut [u8],
+) -> Outcome
+    ensures { call_of result file.new buffer.new
+        ≡ begin_call client.run (params_of direction «record».now)
+        (lent_of (time_of «record».now) nonce payload.now file.old
+        buffer.old) }
+{
+    let params = params_of(direction, record);
+    let time = number_at(record, TIME_AT, TIME_BYTES);
+    client.begin(params, time, nonce, payload, file, buffer)
+}
+
+// A client's call by the event of a record.
+fn event_call(
+    event: Event,
+    client: Client,
+    record: &[u8],
+    nonce: [u8; NONCE_BYTES],
+    payload: &[u8],
+    file: &mut [u8],
+    buffer: &mut [u8],
+) -> Outcome
+    ensures { call_of result file.new buffer.new
+        ≡ event_call event client.run «record».now
+        (lent_of (time_of «record».now) nonce payload.now file.old
+        buffer.old) }
+{
+    let time = number_at(record, TIME_AT, TIME_BYTES);
+    let body = body_of(Kind::Run(event), record);
+    match event {
+        Event::Upload => begin(
+            client,
+            Direction::Upload,
+            record,
+            nonce,
+            payload,
+            file,
+            buffer,
+        ),
+        Event::Download => begin(
+            client,
+            Direction::Download,
+            record,
+            nonce,
+            payload,
+            file,
+            buffer,
+        ),
+        Event::Reply => client.reply(body, time, nonce, payload, file, buffer),
+        Event::NoReply => client.no_reply(time, nonce, payload, file, buffer),
+    }
+}
+
+// A client's call with the file buffer of run i.
+fn room_call(
+    event: Event,
+    client: Client,
+    i: usize,
+    record: &[u8],
+    nonce: [u8; NONCE_BYTES],
+    payload: &[u8],
+    files: &mut [u8],
+    buffer: &mut [u8],
+) -> Outcome
+    requires { (i < run_count) × (length files.old ≡ rooms_bytes) }
+    ensures { call_of result files.new buffer.new
+        ≡ room_call event client.run i «record».now
+        (lent_of (time_of «record».now) nonce payload.now files.old
+        buffer.old) }
+{
+    let from = i * FILE_BYTES;
+    let end = from + FILE_BYTES;
+    event_call(
+        event,
+        client,
+        record,
+        nonce,
+        payload,
+        &mut files[from..end],
+        buffer,
+    )
+}
+
+// Whether a call keeps its nonce bytes and payload: a begin that was given no number.
+fn keeps(begin: bool, answer: ClientAnswer) -> bool
+    ensures { result ≡ keeps begin answer }
+{
+    match answer {
+        ClientAnswer::Request(_) => begin,
+        ClientAnswer::Ignored => begin,
+        ClientAnswer::Closed(_) => begin,
+        ClientAnswer::Refused(_) => false,
+    }
+}
+
+// The run with its client's next record; what it keeps stays.
+fn with_client(run: Run, client: Client) -> Run
+    ensures { result ≡ with_client run client.run }
+{
+    let nonce = run.nonce;
+    Run {
+        client,
+        nonce,
+        payload: run.payload,
+    }
+}
+
+// The run after a call.
+fn next_run(kept: bool, run: Run, client: Client, nonce: [u8; NONCE_BYTES], payload: u64) -> Run
+    ensures { result ≡ next_run kept run client.run nonce payload }
+{
+    if kept {
+        return Run {
+            client,
+            nonce,
+            payload,
+        };
+    }
+    with_client(run, client)
+}
+
+// Keeps the payload of a begin in the room of run i.
+fn keep_payload(kept: bool, payloads: &mut [u8], i: usize, payload: &[u8])
+    requires { (i < run_count) × (length payloads.old ≡ rooms_bytes)
+        × (kept ≡ true → length payload.now ≤ file_bytes) }
+    ensures { payloads.new ≡ kept_payloads kept payloads.old i payload.now }
+{
+    if kept {
+        append(payloads, i * FILE_BYTES, payload);
+    }
+}
+
+// A call to run i by the event of a record.
+fn run_event(
+    run: Run,
+    i: usize,
+    event: Event,
+    record: &[u8],
+    payloads: &mut [u8],
+    files: &mut [u8],
+    buffer: &mut [u8],
+) -> RunOut
+    requires { (i < run_count) × Ready event «record».now payloads.old files.old }
+    ensures { (bank : Lent) (room : List ℕ) (l : Lines)
+        → run_call_of result (memory bank payloads.new files.new buffer.new room l)
+        ≡ run_call event i run (memory bank payloads.old files.old buffer.old room l)
+        «record».now }
+{
+    let client = run.client;
+    let held = run.nonce;
+    let begin = begins(event);
+    let nonce = nonce_for(begin, record, held);
+    let body = body_of(Kind::Run(event), record);
+    let o = room_call(
+        event,
+        client,
+        i,
+        record,
+        nonce,
+        payload_for(begin, body, file_of(payloads, i, run.payload)),
+        files,
+        buffer,
+    );
+    let answer = o.answer;
+    let after = o.client;
+    let kept = keeps(begin, answer);
+    keep_payload(kept, payloads, i, body);
+    let next = next_run(kept, run, after, nonce, body.len() as u64);
+    RunOut {
+        run: next,
+        answer: run_answer(answer, after),
+    }
 }
 
 // A call to the client run that a record names: it is taken out of the numbers and put back.
@@ -195,10 +460,10 @@ fn run_call(
     buffer: &mut [u8],
 ) -> Answer
     requires { Ready event «record».now payloads.old files.old }
-    ensures { (bank : LentBanks) (room : List ℕ) (l : Lines)
-        → after_call (unit_from runs.new nonces.new)
+    ensures { (row : List row-event.Event) (bank : Lent) (room : List ℕ) (l : Lines)
+        → after_call (unit_of (runs_from runs.new nonces.new) row)
         (memory bank payloads.new files.new buffer.new room l) result
-        ≡ run_step event (state_of (unit_from runs.old nonces.old)
+        ≡ run_step event (state_of (unit_of (runs_from runs.old nonces.old) row)
         (memory bank payloads.old files.old buffer.old room l))
         «record».now }
 {
@@ -210,36 +475,28 @@ fn run_call(
     o.answer
 }
 
-// The place of the bank whose journal a record names.
-fn journal_index(record: &[u8]) -> usize
-    requires { is_bank (journal_bank_of «record».now) ≡ true }
-    ensures { (result ≡ journal_index «record».now) × (result < banks) }
-{
-    (number_at(record, JOURNAL_BANK_AT, BANK_BYTES) - 1) as usize
-}
-
-// A bank's journal is handed to the run that a record names.
+// The journal is handed to the run that a record names.
 fn journal_call(
     runs: &mut [u64; RUNS_SIZE],
     nonces: &mut [u8; NONCES_SIZE],
-    journals: &[u64; JOURNALS_SIZE],
+    row: &[u64; ROW_SIZE],
     record: &[u8],
 ) -> Answer
-    requires { (is_run (run_of «record».now) ≡ true) × (is_bank (journal_bank_of «record».now) ≡ true) }
-    ensures { (rows o x p f b room : List ℕ) (l : Lines)
-        → after_call (unit_from runs.new nonces.new)
-        (memory (lent_banks rows (journals_from journals.now) o x) p f b room l) result
-        ≡ journal_step (state_of (unit_from runs.old nonces.old)
-        (memory (lent_banks rows (journals_from journals.now) o x) p f b room l))
+    requires { is_run (run_of «record».now) ≡ true }
+    ensures { (m : Memory)
+        → after_call (unit_from runs.new nonces.new row.now) m result
+        ≡ journal_step (state_of (unit_from runs.old nonces.old row.now) m)
         «record».now }
 {
     let i = index_of(record);
     let run = run_at(runs, nonces, i);
-    let held = journal_in(journals, journal_index(record));
-    let o = journal_event(run, held);
-    let next = o.run;
-    set_run(runs, nonces, i, next);
-    o.answer
+    let client = run.client;
+    let held = journal_of(row);
+    let o = client.journal_held(held);
+    let after = o.client;
+    let answer = o.answer;
+    set_run(runs, nonces, i, with_client(run, after));
+    journal_answer(answer, after)
 }
 
 // Whether the rooms lent for the runs, for images and for the lines are of their lengths.
@@ -265,7 +522,7 @@ fn rooms_right(payloads: usize, files: usize, room: usize, lines: usize, stores:
 pub fn call(
     runs: &mut [u64; RUNS_SIZE],
     nonces: &mut [u8; NONCES_SIZE],
-    journals: &mut [u64; JOURNALS_SIZE],
+    row: &mut [u64; ROW_SIZE],
     record: &[u8],
     rows: &mut [u64],
     orders: &mut [u8],
@@ -277,13 +534,13 @@ pub fn call(
     lines: &mut [u64],
     stores: &mut [u8],
 ) -> Answer
-    ensures { after_call (unit_from runs.new nonces.new)
-        (memory (lent_banks rows.new (journals_from journals.new) orders.new
-        mailboxes.new) payloads.new files.new buffer.new room.new
+    ensures { after_call (unit_from runs.new nonces.new row.new)
+        (memory (lent rows.new orders.new mailboxes.new)
+        payloads.new files.new buffer.new room.new
         (lines_of lines.new stores.new)) result
-        ≡ unit_call (state_of (unit_from runs.old nonces.old)
-        (memory (lent_banks rows.old (journals_from journals.old) orders.old
-        mailboxes.old) payloads.old files.old buffer.old room.old
+        ≡ unit_call (state_of (unit_from runs.old nonces.old row.old)
+        (memory (lent rows.old orders.old mailboxes.old)
+        payloads.old files.old buffer.old room.old
         (lines_of lines.old stores.old)))
         «record».now }
 {
@@ -298,17 +555,17 @@ pub fn call(
     }
     let kind = call_of(record);
     match kind {
-        Kind::Frame => frame_call(journals, record, rows, orders, mailboxes, buffer),
+        Kind::Frame => frame_call(row, record, rows, orders, mailboxes, buffer),
         Kind::File => file_call(record, rows, mailboxes),
         Kind::Run(event) => run_call(runs, nonces, event, record, payloads, files, buffer),
-        Kind::Journal => journal_call(runs, nonces, journals, record),
-        Kind::Away => away_call(journals, record, rows, orders, mailboxes, room),
-        Kind::TakeUp => take_up_call(journals, record, rows, orders, mailboxes, room),
+        Kind::Journal => journal_call(runs, nonces, row, record),
+        Kind::Away => away_call(row, record, rows, orders, mailboxes, room),
+        Kind::TakeUp => take_up_call(row, record, rows, orders, mailboxes, room),
         Kind::Image => image_call(record, room),
         Kind::ValueDay => value_day_call(record),
         Kind::MakeLine => make_call(record, lines, stores),
         Kind::PutIn => put_in_call(record, lines, stores, buffer),
-        Kind::Counts => count_call(record, rows),
+        Kind::Counts => count_call(rows),
         Kind::NoCall => Answer::NoCall,
     }
 }

@@ -1,6 +1,6 @@
 // The calls on lines: one is made from a seed, and a message is put into one.
 ghost use Rattle.std.specs.Prelude.{◌≡◌, true, List, ℕ, ◌<◌, length};
-ghost use Rattle.banks.specs.Banks.{LentBanks};
+ghost use Rattle.bank_steps.specs.Lent.{Lent};
 ghost use Rattle.unit_state.specs.Records.{line_of, is_line, line_count};
 ghost use Rattle.unit_state.specs.declared.state.UnitState.{UnitState};
 ghost use Rattle.unit_rows.specs.Lines.{lines_size, stores_bytes, lines_of};
@@ -49,7 +49,7 @@ fn line_index(record: &[u8]) -> usize
 pub(crate) fn make_call(record: &[u8], rows: &mut [u64], stores: &[u8]) -> Answer
     requires { (is_line (line_of «record».now) ≡ true) × (length rows.old ≡ lines_size)
         × (length stores.now ≡ stores_bytes) }
-    ensures { (u : UnitState) (bank : LentBanks) (p f b room : List ℕ)
+    ensures { (u : UnitState) (bank : Lent) (p f b room : List ℕ)
         → after_call u (memory bank p f b room (lines_of rows.new stores.now)) result
         ≡ make_step (state_of u (memory bank p f b room (lines_of rows.old stores.now)))
         «record».now }
@@ -69,7 +69,7 @@ pub(crate) fn put_in_call(
 ) -> Answer
     requires { (is_line (line_of «record».now) ≡ true) × (length rows.old ≡ lines_size)
         × (length stores.old ≡ stores_bytes) }
-    ensures { (u : UnitState) (bank : LentBanks) (p f room : List ℕ)
+    ensures { (u : UnitState) (bank : Lent) (p f room : List ℕ)
         → after_call u
         (memory bank p f buffer.new room (lines_of rows.new stores.new)) result
         ≡ put_in_step (state_of u

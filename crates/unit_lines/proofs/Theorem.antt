@@ -30,6 +30,7 @@ use Rattle.unit.specs.Call.{
   out_answer,
   frame_step,
   file_step,
+  run_call,
   run_step,
   journal_step,
   away_step,
@@ -44,7 +45,7 @@ use Rattle.unit.specs.Call.{
   step_of,
   unit_call,
 }
-use Rattle.unit.proofs.Rooms.{RoomsLengths, rooms-lengths}
+use Rattle.unit.proofs.Begins.{RoomsLengths, rooms-lengths}
 use Rattle.unit_lines.specs.UnitLines.{Used, used, message_of, used_by, used_after, IsUsed, LinesAre, LentTo, Records, none, more, unit_after, FreshLines, UnitLines, UnitAnswers}
 use Rattle.unit_lines.proofs.Parts.{made_other, put-other-row, put-other-store}
 use Rattle.unit_lines.proofs.OneLine.{same_parts, in_use_lem, same-stores, made-own, too_long, put-own}
@@ -175,7 +176,7 @@ module _ (s : State) (r : List ℕ) (l : LentTo s r) where
     -- ---- any record
 
     step_lines : (g : Kind) → call_of r ≡ g → LinesAre (λ i. used_by g i r (us i)) (step_of g s r).state
-    unfolding frame_step file_step run_step journal_step away_step take_up_step image_step value_day_step count_step
+    unfolding frame_step file_step run_step run_call journal_step away_step take_up_step image_step value_day_step count_step
     step_lines kind.Frame e = v
     step_lines kind.File e = v
     step_lines (kind.Run x) e = v

@@ -1,4 +1,3 @@
 -- The laws that several proofs, and the crates above, cite.
 pub mod Rows
-pub mod JournalParts
 pub mod LineParts

@@ -263,17 +263,13 @@ pub client-read : (runs : List ℕ) (i : ℕ) → client_of (take run_width (dro
       subscriber = get_or runs (run_width * i + 3) 0;
       exchange = get_or runs (run_width * i + 4) 0;
       repeats = get_or runs (run_width * i + 5) 0;
-      terms = record {
-        bank = get_or runs (run_width * i + 6) 0;
-        edition = edition_of (get_or runs (run_width * i + 7) 0);
-        number = get_or runs (run_width * i + 8) 0;
-      };
-      transaction = bits (get_or runs (run_width * i + 9) 0) (get_or runs (run_width * i + 10) 0);
-      number = get_or runs (run_width * i + 11) 0;
-      length = get_or runs (run_width * i + 12) 0;
-      segments = get_or runs (run_width * i + 13) 0;
-      segment = get_or runs (run_width * i + 14) 0;
-      issued = get_or runs (run_width * i + 15) 0;
+      terms = record { edition = edition_of (get_or runs (run_width * i + 6) 0); number = get_or runs (run_width * i + 7) 0 };
+      transaction = bits (get_or runs (run_width * i + 8) 0) (get_or runs (run_width * i + 9) 0);
+      number = get_or runs (run_width * i + 10) 0;
+      length = get_or runs (run_width * i + 11) 0;
+      segments = get_or runs (run_width * i + 12) 0;
+      segment = get_or runs (run_width * i + 13) 0;
+      issued = get_or runs (run_width * i + 14) 0;
     }
 client-read runs i =
     rw (
@@ -292,7 +288,6 @@ client-read runs i =
       number_at run_width i 12 runs (omega arith),
       number_at run_width i 13 runs (omega arith),
       number_at run_width i 14 runs (omega arith),
-      number_at run_width i 15 runs (omega arith),
       add-zero (run_width * i),
     )
 
@@ -319,12 +314,8 @@ module _ (runs nonces : List ℕ) (i : ℕ) (h : i < run_count) where
       (zip-set run_of (parts run_width run_count runs) (parts nonce_bytes run_count nonces) i (run_numbers run) run.nonce
       ∙ ap (set (zip_with run_of (parts run_width run_count runs) (parts nonce_bytes run_count nonces)) i) (run-back run))
 
--- ---- zeros are a fresh unit, and journals with no event
+-- ---- zeros are a fresh unit
 
-pub fresh-unit : unit_from (replicate runs_size 0) (replicate nonces_size 0) ≡ fresh
-unfolding runs_from rows_of zip_with fresh
+pub fresh-unit : unit_from (replicate runs_size 0) (replicate nonces_size 0) (replicate row_size 0) ≡ fresh
+unfolding runs_from journal_from rows_of zip_with fresh empty_row
 fresh-unit = refl
-
-pub empty-journal : journal_from (replicate row_size 0) ≡ empty_row
-unfolding journal_from rows_of empty_row
-empty-journal = refl

@@ -1,8 +1,8 @@
-// A journal's row as numbers: a record, the events of one call entered, and the whole row by value and back.
-ghost use Rattle.std.specs.Prelude.{◌≡◌, ◌<◌, length, get_or, set};
+// The journal's row as numbers: a record, the events of one call entered, and the whole row by value and back.
+ghost use Rattle.std.specs.Prelude.{◌≡◌, ◌<◌, get_or, set};
 ghost use Rattle.journal.specs.Events.{record_count, no_event};
 ghost use Rattle.journal.specs.Row.{row_after};
-ghost use Rattle.unit_rows.specs.Rows.{row_size, journal_from};
+ghost use Rattle.unit_rows.specs.Rows.{journal_from};
 
 use image_numbers::events::{kind_of, put_event};
 use journal::event::{Batch, Event, RECORD_COUNT};
@@ -14,8 +14,8 @@ const EVENT_WIDTH: usize = 8;
 pub const ROW_SIZE: usize = RECORD_COUNT * EVENT_WIDTH;
 
 // Record i.
-pub fn record_at(row: &[u64], i: usize) -> Event
-    requires { (i < record_count) × (length row.now ≡ row_size) }
+pub fn record_at(row: &[u64; ROW_SIZE], i: usize) -> Event
+    requires { i < record_count }
     ensures { result ≡ get_or (journal_from row.now) i no_event }
 {
     let at = EVENT_WIDTH * i;
@@ -33,16 +33,15 @@ pub fn record_at(row: &[u64], i: usize) -> Event
 }
 
 // Sets record i.
-fn set_record(row: &mut [u64], i: usize, e: Event)
-    requires { (i < record_count) × (length row.old ≡ row_size) }
+fn set_record(row: &mut [u64; ROW_SIZE], i: usize, e: Event)
+    requires { i < record_count }
     ensures { journal_from row.new ≡ set (journal_from row.old) i e }
 {
     put_event(e, row, EVENT_WIDTH * i);
 }
 
 // The events of one call are entered after so many others, as `journal::row::enter` does on records.
-pub fn enter(row: &mut [u64], events: u64, clock: u64, batch: Batch)
-    requires { length row.old ≡ row_size }
+pub fn enter(row: &mut [u64; ROW_SIZE], events: u64, clock: u64, batch: Batch)
     ensures { journal_from row.new ≡ row_after events clock batch (journal_from row.old) }
 {
     let places = places_of(RECORD_COUNT, events, batch.count);
@@ -63,8 +62,7 @@ pub fn enter(row: &mut [u64], events: u64, clock: u64, batch: Batch)
 }
 
 // The row by value.
-pub fn journal_of(row: &[u64]) -> [Event; RECORD_COUNT]
-    requires { length row.now ≡ row_size }
+pub fn journal_of(row: &[u64; ROW_SIZE]) -> [Event; RECORD_COUNT]
     ensures { result ≡ journal_from row.now }
 {
     let first = record_at(row, 0);
@@ -78,8 +76,7 @@ pub fn journal_of(row: &[u64]) -> [Event; RECORD_COUNT]
 }
 
 // The records of an array become the row's.
-pub fn set_journal(row: &mut [u64], held: [Event; RECORD_COUNT])
-    requires { length row.old ≡ row_size }
+pub fn set_journal(row: &mut [u64; ROW_SIZE], held: [Event; RECORD_COUNT])
     ensures { journal_from row.new ≡ held }
 {
     let mut i = 0;

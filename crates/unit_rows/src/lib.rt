@@ -1,7 +1,6 @@
-// The unit's client runs, the journals' rows and the lines as numbers and bytes in lent memory.
+// The unit's client runs, the journal's row and the lines as numbers and bytes in lent memory.
 mod codes;
 pub mod events;
-pub mod journals;
 pub mod lines;
 pub mod runs;
 pub mod whole;

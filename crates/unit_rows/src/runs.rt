@@ -18,7 +18,7 @@ use unit_state::record::{RUN_COUNT, bytes_at, edition_of};
 use unit_state::state::Run;
 
 // The numbers of a run, of all runs, and the nonce bytes of all runs.
-const RUN_WIDTH: usize = 17;
+const RUN_WIDTH: usize = 16;
 
 pub const RUNS_SIZE: usize = RUN_COUNT * RUN_WIDTH;
 
@@ -33,15 +33,14 @@ fn client_at(runs: &[u64; RUNS_SIZE], i: usize) -> ClientRun
     let stage = stage_of(runs[at]);
     let direction = direction_of(runs[at + 1]);
     let step = step_of(runs[at + 2]);
-    let edition = edition_of(runs[at + 7]);
+    let edition = edition_of(runs[at + 6]);
     let terms = RunTerms {
-        bank: runs[at + 6],
         edition,
-        number: runs[at + 8],
+        number: runs[at + 7],
     };
     let transaction = Bits128 {
-        high: runs[at + 9],
-        low: runs[at + 10],
+        high: runs[at + 8],
+        low: runs[at + 9],
     };
     ClientRun {
         stage,
@@ -52,11 +51,11 @@ fn client_at(runs: &[u64; RUNS_SIZE], i: usize) -> ClientRun
         repeats: runs[at + 5],
         terms,
         transaction,
-        number: runs[at + 11],
-        length: runs[at + 12],
-        segments: runs[at + 13],
-        segment: runs[at + 14],
-        issued: runs[at + 15],
+        number: runs[at + 10],
+        length: runs[at + 11],
+        segments: runs[at + 12],
+        segment: runs[at + 13],
+        issued: runs[at + 14],
     }
 }
 
@@ -77,7 +76,7 @@ pub fn run_at(runs: &[u64; RUNS_SIZE], nonces: &[u8; NONCES_SIZE], i: usize) -> 
     Run {
         client,
         nonce,
-        payload: runs[RUN_WIDTH * i + 16],
+        payload: runs[RUN_WIDTH * i + 15],
     }
 }
 
@@ -100,7 +99,6 @@ fn put_run(runs: &mut [u64; RUNS_SIZE], i: usize, run: Run)
         c.subscriber,
         c.exchange,
         c.repeats,
-        terms.bank,
         number_of_edition(edition),
         terms.number,
         c.transaction.high,

@@ -2,6 +2,7 @@
 ghost use Rattle.std.specs.Prelude.{◌≡◌};
 ghost use Rattle.unit_rows.specs.Rows.{runs_from, unit_from};
 
+use crate::events::{ROW_SIZE, journal_of};
 use crate::runs::{NONCES_SIZE, RUNS_SIZE, run_at};
 use unit_state::record::RUN_COUNT;
 use unit_state::state::{Run, UnitState};
@@ -21,9 +22,17 @@ fn runs_of(runs: &[u64; RUNS_SIZE], nonces: &[u8; NONCES_SIZE]) -> [Run; RUN_COU
 }
 
 // The unit by value.
-pub fn unit_of(runs: &[u64; RUNS_SIZE], nonces: &[u8; NONCES_SIZE]) -> UnitState
-    ensures { result ≡ unit_from runs.now nonces.now }
+pub fn unit_of(
+    runs: &[u64; RUNS_SIZE],
+    nonces: &[u8; NONCES_SIZE],
+    row: &[u64; ROW_SIZE],
+) -> UnitState
+    ensures { result ≡ unit_from runs.now nonces.now row.now }
 {
     let held = runs_of(runs, nonces);
-    UnitState { runs: held }
+    let journal = journal_of(row);
+    UnitState {
+        runs: held,
+        journal,
+    }
 }

@@ -3,7 +3,6 @@ use Rattle.std.specs.Prelude.{ℕ, ◌+◌, ◌-◌, Bool, true, false, cond, �
 use Rattle.octets.specs.Bytes.{number}
 use Rattle.message.specs.declared.editions.Edition.{Edition}
 use Rattle.message.specs.declared.editions.Edition.TheVariants.{V24, V25}
-use Rattle.message.specs.Limits.{is_bank}
 use Rattle.message.specs.Verdicts.{decide}
 use Rattle.bank_state.specs.Limits.{id_bytes}
 use Rattle.client_run.specs.Run.{nonce_bytes}
@@ -50,10 +49,6 @@ kind_of letter =
 
 abbrev pub letter_bytes : ℕ
 letter_bytes = 1
-
--- "bank 2"
-abbrev pub bank_bytes : ℕ
-bank_bytes = 2
 
 -- "run 1"
 abbrev pub run_bytes : ℕ
@@ -106,29 +101,20 @@ bank_time_at = letter_bytes
 abbrev pub ids_at : ℕ
 ids_at = bank_time_at + time_bytes
 
--- "`M`, `P` and `T` begin with bank 2 (behind the letter)", and so does C; M: the mailbox; P and T: the length
-abbrev pub bank_at : ℕ
-bank_at = letter_bytes
-
+-- M: the mailbox
 abbrev pub mailbox_at : ℕ
-mailbox_at = bank_at + bank_bytes
+mailbox_at = letter_bytes
 
-abbrev pub lent_at : ℕ
-lent_at = bank_at + bank_bytes
-
--- U, D, R, N and J: the run; all but J: the time; "`U` and `D` have bank 2 behind the time", then subscriber, first
--- exchange number and nonce bytes; U: "behind the nonce bytes", edition and order number
+-- U, D, R, N and J: the run; all but J: the time; U and D: subscriber, first exchange number and nonce bytes; U: "behind
+-- the nonce bytes", edition and order number
 abbrev pub run_number_at : ℕ
 run_number_at = letter_bytes
 
 abbrev pub time_at : ℕ
 time_at = run_number_at + run_bytes
 
-abbrev pub run_bank_at : ℕ
-run_bank_at = time_at + time_bytes
-
 abbrev pub subscriber_at : ℕ
-subscriber_at = run_bank_at + bank_bytes
+subscriber_at = time_at + time_bytes
 
 abbrev pub first_at : ℕ
 first_at = subscriber_at + subscriber_bytes
@@ -142,13 +128,9 @@ edition_at = nonce_at + nonce_bytes
 abbrev pub order_at : ℕ
 order_at = edition_at + edition_bytes
 
--- "`J` has bank 2 behind the run"
-abbrev pub journal_bank_at : ℕ
-journal_bank_at = run_number_at + run_bytes
-
--- I: the offset
-abbrev pub offset_at : ℕ
-offset_at = letter_bytes
+-- P and T: the length; I: the offset
+abbrev pub extent_at : ℕ
+extent_at = letter_bytes
 
 -- V: the booking time
 abbrev pub booking_at : ℕ
@@ -165,32 +147,31 @@ seed_at = line_number_at + line_bytes
 abbrev pub head_of : Kind → ℕ
 -- "bank time 8, ID bytes 8, length 2"
 head_of Frame = ids_at + id_bytes + size_bytes
--- "bank 2, mailbox 2, length 2"
+-- "mailbox 2, length 2"
 head_of File = mailbox_at + mailbox_bytes + size_bytes
--- "run 1, time 8, bank 2, subscriber 2, first exchange number 4, nonce bytes 12, edition 1, order number 4, length 2"
+-- "run 1, time 8, subscriber 2, first exchange number 4, nonce bytes 12, edition 1, order number 4, length 2"
 head_of (Run Upload) = order_at + order_bytes + size_bytes
--- "run 1, time 8, bank 2, subscriber 2, first exchange number 4, nonce bytes 12"
+-- "run 1, time 8, subscriber 2, first exchange number 4, nonce bytes 12"
 head_of (Run Download) = nonce_at + nonce_bytes
 -- "run 1, time 8, length 2"
 head_of (Run Reply) = time_at + time_bytes + size_bytes
 -- "run 1, time 8"
 head_of (Run NoReply) = time_at + time_bytes
--- "run 1, bank 2"
-head_of Journal = journal_bank_at + bank_bytes
--- "bank 2, length 4"
-head_of Away = lent_at + extent_bytes
-head_of TakeUp = lent_at + extent_bytes
+-- "run 1"
+head_of Journal = run_number_at + run_bytes
+-- "length 4"
+head_of Away = extent_at + extent_bytes
+head_of TakeUp = extent_at + extent_bytes
 -- "offset 4, length 2"
-head_of Image = offset_at + extent_bytes + size_bytes
+head_of Image = extent_at + extent_bytes + size_bytes
 -- "booking time 8"
 head_of ValueDay = booking_at + time_bytes
 -- "line 1, seed 4"
 head_of MakeLine = seed_at + seed_bytes
 -- "line 1, length 2"
 head_of PutIn = line_number_at + line_bytes + size_bytes
--- "from card 13 on: bank 2"
-head_of Counts = bank_at + bank_bytes
 -- the letter alone
+head_of Counts = letter_bytes
 head_of NoCall = letter_bytes
 
 -- whether a length stands at the end of the head
@@ -221,29 +202,23 @@ number_at from n r = number (bytes_at from n r)
 abbrev pub letter_of : List ℕ → ℕ
 letter_of r = get_or r 0 0
 
--- F: bank time and ID bytes; M, P, T and C: the bank; M: the mailbox
+-- F: bank time and ID bytes; M: the mailbox
 abbrev pub bank_time_of : List ℕ → ℕ
 bank_time_of r = number_at bank_time_at time_bytes r
 
 abbrev pub ids_of : List ℕ → List ℕ
 ids_of r = bytes_at ids_at id_bytes r
 
-abbrev pub bank_named : List ℕ → ℕ
-bank_named r = number_at bank_at bank_bytes r
-
 abbrev pub mailbox_of : List ℕ → ℕ
 mailbox_of r = number_at mailbox_at mailbox_bytes r
 
--- U, D, R, N and J: the run, "numbered 1 to 16"; all but J: the time; U and D: the bank, subscriber, first exchange
--- number and nonce bytes
+-- U, D, R, N and J: the run, "numbered 1 to 16"; all but J: the time; U and D: subscriber, first exchange number and
+-- nonce bytes
 abbrev pub run_of : List ℕ → ℕ
 run_of r = number_at run_number_at run_bytes r
 
 abbrev pub time_of : List ℕ → ℕ
 time_of r = number_at time_at time_bytes r
-
-abbrev pub run_bank_of : List ℕ → ℕ
-run_bank_of r = number_at run_bank_at bank_bytes r
 
 abbrev pub subscriber_of : List ℕ → ℕ
 subscriber_of r = number_at subscriber_at subscriber_bytes r
@@ -261,16 +236,12 @@ edition_in r = number_at edition_at edition_bytes r
 abbrev pub order_of : List ℕ → ℕ
 order_of r = number_at order_at order_bytes r
 
--- J: "the bank whose journal is handed over"
-abbrev pub journal_bank_of : List ℕ → ℕ
-journal_bank_of r = number_at journal_bank_at bank_bytes r
-
 -- P and T: how many bytes of the image room, "the first that many"; I: where its bytes go
 abbrev pub lent_length_of : List ℕ → ℕ
-lent_length_of r = number_at lent_at extent_bytes r
+lent_length_of r = number_at extent_at extent_bytes r
 
 abbrev pub offset_of : List ℕ → ℕ
-offset_of r = number_at offset_at extent_bytes r
+offset_of r = number_at extent_at extent_bytes r
 
 -- V: the booking time
 abbrev pub booking_time_of : List ℕ → ℕ
@@ -326,14 +297,13 @@ room_bytes = 140000
 abbrev pub in_room : ℕ → ℕ → Bool
 in_room from n = leb (from + n) room_bytes
 
--- a run is one of the 16, an edition one of the two, a line one of the 32, where the record names one, a journal's bank
--- one of the four ("outside 1 to 4 ends the input"), and its bytes of the image room are within it; another letter is no
--- call. The other calls answer a bank outside 1 to 4 by a number
+-- a run is one of the 16, an edition one of the two, a line one of the 32, where the record names one, and its bytes of
+-- the image room are within it; another letter is no call
 abbrev pub is_within : Kind → List ℕ → Bool
 is_within Frame r = true
 is_within File r = true
 is_within (Run e) r = is_run (run_of r) && has_edition e r
-is_within Journal r = is_run (run_of r) && is_bank (journal_bank_of r)
+is_within Journal r = is_run (run_of r)
 is_within Away r = in_room 0 (lent_length_of r)
 is_within TakeUp r = in_room 0 (lent_length_of r)
 is_within Image r = in_room (offset_of r) (size_of Image r)
@@ -348,8 +318,8 @@ unfoldable pub is_whole : Kind → List ℕ → Bool
 is_whole k r = leb (head_of k) (length r) && leb (head_of k + size_of k r) (length r)
 
 -- "A record that is cut short, another letter, and a run outside 1 to 16 end the input", as do "a `P` or `T` with a
--- length over 140,000, and an `I` whose offset plus length is over 140,000", "a line outside 1 to 32", another value than
--- 0 and 1 as the edition, and a bank outside 1 to 4 whose journal is asked for: they are no call
+-- length over 140,000, and an `I` whose offset plus length is over 140,000", "a line outside 1 to 32", and another value
+-- than 0 and 1 as the edition: they are no call
 unfoldable pub call_of : List ℕ → Kind
 call_of r =
     let k = kind_of (letter_of r) in

@@ -8,7 +8,6 @@ ghost use Rattle.unit_state.specs.Records.{lent_length_of, offset_of};
 use bank_state::limits::ID_BYTES;
 use client_run::run::NONCE_BYTES;
 use message::editions::Edition;
-use message::limits::is_bank;
 use octets::bytes::{behind, front, number};
 
 // The client runs, numbered from 1.
@@ -20,12 +19,10 @@ pub const LINE_COUNT: usize = 32;
 // The bytes of the image room.
 pub const ROOM_BYTES: usize = 140000;
 
-// How many bytes the parts of a record have: its letter, a bank, a run, a time, a mailbox, a subscriber, a first exchange
+// How many bytes the parts of a record have: its letter, a run, a time, a mailbox, a subscriber, a first exchange
 // number, an edition, an order number, the length of what stands behind the head, a length or an offset in the image
 // room, a line, and a seed.
 pub const LETTER_BYTES: usize = 1;
-
-pub const BANK_BYTES: usize = 2;
 
 pub const RUN_BYTES: usize = 1;
 
@@ -49,26 +46,19 @@ pub const LINE_BYTES: usize = 1;
 
 pub const SEED_BYTES: usize = 4;
 
-// Where the parts begin, each behind the one before it: those of a frame, of the host's calls that name a bank (a file,
-// putting away, taking up, the counts), of a call to a run, of the journal for a run, of one on the image room, of one
-// for a value day, and of one on a line.
+// Where the parts begin, each behind the one before it: those of a frame to the bank, of a file, of a call to a run,
+// of one on the image room, of one for a value day, and of one on a line.
 pub const BANK_TIME_AT: usize = LETTER_BYTES;
 
 pub const IDS_AT: usize = BANK_TIME_AT + TIME_BYTES;
 
-pub const BANK_AT: usize = LETTER_BYTES;
-
-pub const MAILBOX_AT: usize = BANK_AT + BANK_BYTES;
-
-pub const LENT_AT: usize = BANK_AT + BANK_BYTES;
+pub const MAILBOX_AT: usize = LETTER_BYTES;
 
 pub const RUN_NUMBER_AT: usize = LETTER_BYTES;
 
 pub const TIME_AT: usize = RUN_NUMBER_AT + RUN_BYTES;
 
-pub const RUN_BANK_AT: usize = TIME_AT + TIME_BYTES;
-
-pub const SUBSCRIBER_AT: usize = RUN_BANK_AT + BANK_BYTES;
+pub const SUBSCRIBER_AT: usize = TIME_AT + TIME_BYTES;
 
 pub const FIRST_AT: usize = SUBSCRIBER_AT + SUBSCRIBER_BYTES;
 
@@ -78,9 +68,7 @@ pub const EDITION_AT: usize = NONCE_AT + NONCE_BYTES;
 
 pub const ORDER_AT: usize = EDITION_AT + EDITION_BYTES;
 
-pub const JOURNAL_BANK_AT: usize = RUN_NUMBER_AT + RUN_BYTES;
-
-pub const OFFSET_AT: usize = LETTER_BYTES;
+pub const EXTENT_AT: usize = LETTER_BYTES;
 
 pub const BOOKING_AT: usize = LETTER_BYTES;
 
@@ -103,9 +91,9 @@ pub enum Event {
     NoReply,
 }
 
-// What a record is: a frame, a file for a bank, a call to a client run, a bank's journal handed to a run, a bank's session
-// put away or taken up, bytes for the image room, the value day of a booking, a line made, a message put into a line, a
-// bank's counts asked for, or no call.
+// What a record is: a call to the bank, a call to a client run, the journal handed to a run, the session put away or
+// taken up, bytes for the image room, the value day of a booking, a line made, a message put into a line, the counts
+// asked for, or no call.
 #[derive(Drop)]
 pub enum Kind {
     Frame,
@@ -165,14 +153,14 @@ pub fn head_of(kind: Kind) -> usize
         Kind::Frame => IDS_AT + ID_BYTES + SIZE_BYTES,
         Kind::File => MAILBOX_AT + MAILBOX_BYTES + SIZE_BYTES,
         Kind::Run(event) => run_head_of(event),
-        Kind::Journal => JOURNAL_BANK_AT + BANK_BYTES,
-        Kind::Away => LENT_AT + EXTENT_BYTES,
-        Kind::TakeUp => LENT_AT + EXTENT_BYTES,
-        Kind::Image => OFFSET_AT + EXTENT_BYTES + SIZE_BYTES,
+        Kind::Journal => RUN_NUMBER_AT + RUN_BYTES,
+        Kind::Away => EXTENT_AT + EXTENT_BYTES,
+        Kind::TakeUp => EXTENT_AT + EXTENT_BYTES,
+        Kind::Image => EXTENT_AT + EXTENT_BYTES + SIZE_BYTES,
         Kind::ValueDay => BOOKING_AT + TIME_BYTES,
         Kind::MakeLine => SEED_AT + SEED_BYTES,
         Kind::PutIn => LINE_NUMBER_AT + LINE_BYTES + SIZE_BYTES,
-        Kind::Counts => BANK_AT + BANK_BYTES,
+        Kind::Counts => LETTER_BYTES,
         Kind::NoCall => LETTER_BYTES,
     }
 }
@@ -238,14 +226,14 @@ pub fn size_of(kind: Kind, s: &[u8]) -> usize
 pub fn lent_length(s: &[u8]) -> usize
     ensures { result ≡ lent_length_of s.now }
 {
-    number_at(s, LENT_AT, EXTENT_BYTES) as usize
+    number_at(s, EXTENT_AT, EXTENT_BYTES) as usize
 }
 
 // Where a record's bytes go in the image room.
 pub fn offset_of(s: &[u8]) -> usize
     ensures { result ≡ offset_of s.now }
 {
-    number_at(s, OFFSET_AT, EXTENT_BYTES) as usize
+    number_at(s, EXTENT_AT, EXTENT_BYTES) as usize
 }
 
 // The frame, file, payload, reply, bytes or message of a record.
@@ -304,16 +292,6 @@ fn is_run_within(event: Event, s: &[u8]) -> bool
     has_edition(event, s)
 }
 
-// Whether there is what a journal's record names: its run, and its bank.
-fn is_journal_within(s: &[u8]) -> bool
-    ensures { result ≡ is_within Kind.Journal s.now }
-{
-    if !is_run(number_at(s, RUN_NUMBER_AT, RUN_BYTES)) {
-        return false;
-    }
-    is_bank(number_at(s, JOURNAL_BANK_AT, BANK_BYTES))
-}
-
 // Whether a line is one of the lines.
 fn is_line(n: u64) -> bool
     ensures { result ≡ is_line n }
@@ -334,8 +312,7 @@ fn in_room(from: usize, n: usize) -> bool
     n <= ROOM_BYTES - from
 }
 
-// Whether there is what the record names: its run, its edition, its line, a journal's bank, and its bytes of the image
-// room. Another call answers a bank that there is not.
+// Whether there is what the record names: its run, its edition, its line, and its bytes of the image room.
 fn is_within(kind: Kind, s: &[u8]) -> bool
     ensures { result ≡ is_within kind s.now }
 {
@@ -343,7 +320,7 @@ fn is_within(kind: Kind, s: &[u8]) -> bool
         Kind::Frame => true,
         Kind::File => true,
         Kind::Run(event) => is_run_within(event, s),
-        Kind::Journal => is_journal_within(s),
+        Kind::Journal => is_run(number_at(s, RUN_NUMBER_AT, RUN_BYTES)),
         Kind::Away => in_room(0, lent_length(s)),
         Kind::TakeUp => in_room(0, lent_length(s)),
         Kind::Image => in_room(offset_of(s), size_of(kind, s)),

@@ -1,9 +1,10 @@
-// The unit's client runs, with what each keeps between its calls. The banks' numbers, stores and journals are lent.
+// The unit's client runs, with what each keeps between its calls, and the journal's row. The bank's numbers are lent.
 use crate::record::RUN_COUNT;
 use client::calls::Client;
 use client_run::run::NONCE_BYTES;
+use journal::event::{Event, RECORD_COUNT};
 use line::layout::MESSAGE_BYTES;
-use message::limits::{BANKS, FILE_BYTES};
+use message::limits::FILE_BYTES;
 
 // The bytes of all runs' payload rooms, and of all their file buffers.
 pub const ROOMS_BYTES: usize = RUN_COUNT * FILE_BYTES;
@@ -19,11 +20,9 @@ pub struct Run {
     pub payload: u64,
 }
 
-// The banks, as a count of their parts.
-pub const BANK_COUNT: usize = BANKS as usize;
-
-// The client runs.
+// The client runs, and the journal as the bank last left it.
 #[derive(Drop)]
 pub struct UnitState {
     pub runs: [Run; RUN_COUNT],
+    pub journal: [Event; RECORD_COUNT],
 }

@@ -7,14 +7,14 @@ use mathlib.Core.Path.{◌≡◌, sym, ap, ◌∙◌, subst}
 use native.Mathlib.Omega.{arith}
 use lib.ListN.{length}
 use borrow.Author.Tests.{not-true, not-false}
-use Rattle.bank_state.specs.Limits.{store_bytes}
+use Rattle.bank_state.specs.Limits.{store_bytes, idle_others}
 use Rattle.bank_verdicts.specs.declared.verdict.Context.{Context}
 use Rattle.bank_sound.specs.Sound.{is_sound}
 use Rattle.bank_sound.proofs.Test.{sound-laid, sound-range}
 use Rattle.journal.specs.declared.event.Entry.{Entry}
 use Rattle.bank_events.specs.Entries.{Holds}
 use Rattle.bank.specs.declared.call.FrameOut.{FrameOut}
-use Rattle.bank.specs.Call.{RightInput, lent_right, verdict_by, input_beside}
+use Rattle.bank.specs.Call.{RightInput, lent_right, verdict_by, frame_input}
 use Rattle.bank.specs.Journal.{if_answered}
 use Rattle.bank.specs.Lent.{lent_frame_call_of}
 use Rattle.bank_steps.specs.Lent.{lent, state_of}
@@ -25,12 +25,12 @@ use borrow.Author.Rules.{rules}
 use Rattle.bank.proofs.call.answer_request.Statement.{statement}
 use Rattle.bank.proofs.call.answer_request.Tie as tie
 
-abbrev context : ℕ → ℕ → Context
-context others n = record { prefix = n; others = others }
+abbrev context : ℕ → Context
+context n = record { prefix = n; others = idle_others }
 
 -- the context by the number of the ID bytes
-at-context : (others : ℕ) {n m : ℕ} → n ≡ m → context others n ≡ context others m
-at-context others e = ap (context others) e
+at-context : {n m : ℕ} → n ≡ m → context n ≡ context m
+at-context e = ap context e
 
 -- the places of the body, from the test of the lengths back to the first
 abbrev at-start : tie.After-lent-right → tie.Start
@@ -43,7 +43,7 @@ sound c = (at-start c).requires.0
 right : (c : tie.Else1) (frame : List ℕ)
     → let a = (at-start c.before).args in
     (length a.orders.now ≡ store_bytes) × (length a.mailboxes.now ≡ store_bytes)
-    × RightInput (input_beside a.others a.time a.ids.now frame a.buffer.now)
+    × RightInput (frame_input a.time a.ids.now frame a.buffer.now)
 unfolding lent_right
 right c frame =
     let a = (at-start c.before).args in
@@ -106,11 +106,11 @@ returns-2 c frame e d =
     let at-lent = at-if1.before in
     let a = (at-start at-lent).args in
     let m = lent a.rows.now a.orders.now a.mailboxes.now in
-    let input = input_beside a.others a.time a.ids.now frame a.buffer.now in
+    let input = frame_input a.time a.ids.now frame a.buffer.now in
     let lengths = sym at-lent.lent-right.ensures ∙ not-false at-lent.lent-right.result at-if1.if1.false in
     let step = at-respond.respond in
     let stored = at-advance.advance.ensures m.mailboxes in
-    let given = at-context a.others at-number.number.ensures.0 in
+    let given = at-context at-number.number.ensures.0 in
     let entered = frame-entered m input (sound at-lent) _ _ stored given e d at-drops.drops.ensures.1.entries in (
       frame-carried m input (sound at-lent) lengths _ _ stored given e d step.ensures.0,
       subst (λ (es : List Entry). Holds step.result.batch (if_answered step.result.out.answer es)) entered

@@ -1,7 +1,6 @@
 -- Number 1 where the rows are no bank's; else the open transactions are counted before the bank's call and after it.
 use Prim.Native.Nat.{ℕ, max}
 use mathlib.Core.Bool.{true}
-use mathlib.Core.List.{List}
 use mathlib.Core.Path.{◌≡◌, sym, ap, ◌∙◌}
 use borrow.Author.Rules.{rules}
 use borrow.Author.Tests.{not-true, not-false}
@@ -11,7 +10,7 @@ use Rattle.bank_sound.specs.Sound.{is_sound}
 use Rattle.bank_sound.proofs.Test.{sound-laid}
 use Rattle.bank_steps.specs.Lent.{Lent, lent}
 use Rattle.bank.specs.declared.call.FrameOut.{FrameOut}
-use Rattle.bank.specs.Call.{FrameInput, input_beside}
+use Rattle.bank.specs.Call.{FrameInput, frame_input}
 use Rattle.bank.specs.Lent.{lent_frame_call_of}
 use Rattle.bank.proofs.Entered.{none-entered}
 use Rattle.bank.proofs.Lent.{rows-refused}
@@ -23,15 +22,15 @@ use Rattle.bank_session.proofs.counted.answer_counted.Tie as tie
 abbrev at-start : tie.After-is-sound → tie.Start
 at-start c = c.before.before.before.before.before.before.before.before
 
-abbrev at-else : tie.After-answer-request → tie.Else1
+abbrev at-else : tie.After-answer-sound → tie.Else1
 at-else c = c.before.before.before.before.before.before.before.before.before.before.before
 
 -- the memory lent, and what the call brings
 abbrev memory : tie.Start → Lent
 memory c = lent c.args.rows.now c.args.orders.now c.args.mailboxes.now
 
-abbrev input : tie.Start → List ℕ → FrameInput
-input c frame = input_beside c.args.others c.args.time c.args.ids.now frame c.args.buffer.now
+abbrev input : tie.Start → FrameInput
+input c = frame_input c.args.time c.args.ids.now c.args.frame.now c.args.buffer.now
 
 sound : (c : tie.Else1) → is_sound (at-start c.before).args.rows.now ≡ true
 sound c = sym c.before.is-sound.ensures ∙ not-false c.before.is-sound.result c.if1.false
@@ -49,7 +48,7 @@ idle c =
     (at-larger.larger.ensures ∙ ap (λ (n : ℕ). max n start.args.time) at-larger.before.clock.ensures)
 
 returns : tie.Need-returns
-returns c frame e d =
+returns c =
     let at-is-sound = c.before.before in
     let start = at-start at-is-sound in
     let a = start.args in
@@ -70,19 +69,15 @@ clock-requires c κs = sound-laid _ (sound c.before.before.before)
 idle-count-requires : tie.Need-idle-count-requires
 idle-count-requires c κs = sound-laid _ (sound c.before.before.before.before.before)
 
-answer-request-requires : tie.Need-answer-request-requires
-answer-request-requires c κs =
-    let at-if1 = c.before.before.before.before.before.before.before.before.before.before in
-    (sound at-if1, (at-start at-if1.before).requires.1.bounded)
+answer-sound-requires : tie.Need-answer-sound-requires
+answer-sound-requires c κs = sound c.before.before.before.before.before.before.before.before.before.before
 
 open-count-requires-2 : tie.Need-open-count-requires-2
 open-count-requires-2 c κs =
     let at-answer = c.before.before.before.before.before.before.before.before.before in
     let at-if1 = at-else at-answer in
     let start = at-start at-if1.before in
-    let r = start.pre.1 in
-    left_laid (memory start) (input start r.frame) (sound at-if1)
-    (at-answer.answer-request.ensures r.frame r.fields r.bytes).0
+    left_laid (memory start) (input start) (sound at-if1) at-answer.answer-sound.ensures.0
 
 moved-requires : tie.Need-moved-requires
 moved-requires c κs =
@@ -92,13 +87,13 @@ moved-requires c κs =
     let at_open = at-idle.before.before.before.before in
     let at-if1 = at-else at-answer in
     let start = at-start at-if1.before in (
-      start.pre.0,
-      gone-few (memory start) (input start start.pre.1.frame) (sound at-if1) (idle at-idle),
+      start.pre,
+      gone-few (memory start) (input start) (sound at-if1) (idle at-idle),
       others-few (sound-laid _ (sound at-if1)) _ _ at_open.open-count.ensures at_others.others-of.ensures,
     )
 
 returns-2 : tie.Need-returns-2
-returns-2 c frame e d =
+returns-2 c =
     let at_moved = c.before in
     let at_others = at_moved.before.before in
     let at_left = at_others.before in
@@ -107,14 +102,13 @@ returns-2 c frame e d =
     let at_open = at-idle.before.before.before.before in
     let at-if1 = at-else at-answer in
     let start = at-start at-if1.before in
-    let step = at-answer.answer-request in
-    let done = step.ensures frame e d in (
-      done.0,
-      done.1,
+    let step = at-answer.answer-sound in (
+      step.ensures.0,
+      step.ensures.1,
       at_moved.moved.ensures
-          ∙ counted-by (memory start) (input start frame) (sound at-if1) done.0 at_open.open-count.ensures
+          ∙ counted-by (memory start) (input start) (sound at-if1) step.ensures.0 at_open.open-count.ensures
           (idle at-idle) at_left.open-count2.ensures at_others.others-of.ensures step.result.out.answer
-          done.2 start.args.c,
+          step.ensures.2 start.args.c,
     )
 
 pub answer-counted-spec : {M : Type 1} → statement M
@@ -129,7 +123,7 @@ answer-counted-spec =
     clock-requires
     (λ c κs. search rules)
     idle-count-requires
-    answer-request-requires
+    answer-sound-requires
     open-count-requires-2
     (λ c κs. search rules)
     moved-requires

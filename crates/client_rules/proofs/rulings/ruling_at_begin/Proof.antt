@@ -25,11 +25,7 @@ passed-2 c = passed-1 c.before.before ∙ rw (le-ltb _ _ c.if2.false)
 
 passed-3 : (c : tie.Else3) → Rest 3 c.before.before.before.before.before.before
 unfolding ruling_at_begin
-passed-3 c = passed-2 c.before.before ∙ rw (← c.before.outside.ensures, c.if3.false)
-
-passed-4 : (c : tie.Else4) → Rest 4 c.before.before.before.before.before.before.before.before.before
-unfolding ruling_at_begin
-passed-4 c = passed-3 c.before.before.before ∙ rw (← c.before.outside2.ensures, c.if4.false)
+passed-3 c = passed-2 c.before.before ∙ rw (← c.before.no-subscriber.ensures, c.if3.false)
 
 wrong-buffers-requires : tie.Need-wrong-buffers-requires
 wrong-buffers-requires c κs = tt
@@ -42,30 +38,23 @@ returns-2 : tie.Need-returns-2
 unfolding ruling_at_begin
 returns-2 c = sym (passed-1 c.before.before ∙ rw (lt-ltb _ _ c.if2.true))
 
-outside-requires : tie.Need-outside-requires
-outside-requires c κs = tt
+no-subscriber-requires : tie.Need-no-subscriber-requires
+no-subscriber-requires c κs = tt
 
 returns-3 : tie.Need-returns-3
 unfolding ruling_at_begin
-returns-3 c = sym (passed-2 c.before.before ∙ rw (← c.before.outside.ensures, c.if3.true))
-
-outside-requires-2 : tie.Need-outside-requires-2
-outside-requires-2 c κs = tt
-
-returns-4 : tie.Need-returns-4
-unfolding ruling_at_begin
-returns-4 c = sym (passed-3 c.before.before.before ∙ rw (← c.before.outside2.ensures, c.if4.true))
+returns-3 c = sym (passed-2 c.before.before ∙ rw (← c.before.no-subscriber.ensures, c.if3.true))
 
 is-begun-requires : tie.Need-is-begun-requires
 is-begun-requires c κs = tt
 
+returns-4 : tie.Need-returns-4
+unfolding ruling_at_begin
+returns-4 c = sym (passed-3 c.before.before ∙ rw (← c.before.is-begun.ensures, c.if4.true))
+
 returns-5 : tie.Need-returns-5
 unfolding ruling_at_begin
-returns-5 c = sym (passed-4 c.before.before ∙ rw (← c.before.is-begun.ensures, c.if5.true))
-
-returns-6 : tie.Need-returns-6
-unfolding ruling_at_begin
-returns-6 c = sym (passed-4 c.before.before ∙ rw (← c.before.is-begun.ensures, c.if5.false))
+returns-5 c = sym (passed-3 c.before.before ∙ rw (← c.before.is-begun.ensures, c.if4.false))
 
 pub ruling-at-begin-spec : {M : Type 1} → statement M
 ruling-at-begin-spec =
@@ -74,10 +63,8 @@ ruling-at-begin-spec =
     wrong-buffers-requires
     returns
     returns-2
-    outside-requires
+    no-subscriber-requires
     returns-3
-    outside-requires-2
-    returns-4
     is-begun-requires
-    returns-5
-    returns-6)
+    returns-4
+    returns-5)

@@ -69,6 +69,9 @@ put-file-requires-2 c κs = (rw c.before.before.before.before.enum-told4.given.1
 mul-put-event : tie.Need-overflow-mul-put-event
 mul-put-event c = omega (arith, record-below c.before)
 
+element-copy-out-put-event : tie.Need-element-copy-out-put-event
+element-copy-out-put-event c = omega (arith, record-below c.before)
+
 put-event-requires : tie.Need-put-event-requires
 put-event-requires c κs = rw c.before.before.enum-told5.given.1 at c.before.before.before.before.before.before.before.before.before.requires.0
 
@@ -132,7 +135,7 @@ put-row-spec =
     put-file-requires-2
     (λ c. search rules)
     mul-put-event
-    (λ c. omega (arith, record-below c.before))
+    element-copy-out-put-event
     put-event-requires
     (λ c. search rules)
     returns

@@ -10,11 +10,11 @@ use Rattle.driver_print.proofs.tables.put_rows.Statement.{statement}
 use Rattle.driver_print.proofs.tables.put_rows.Tie as tie
 
 abbrev invariant-loop : tie.invariant-loop
-invariant-loop output₀ at t u journal rows orders mailboxes files n end₀ i₀ output end i =
-    Rows (row_at t u journal (lent rows orders mailboxes) files) (room_of t) (row_count t) output₀ at i output end
+invariant-loop output₀ at t u rows orders mailboxes files n end₀ i₀ output end i =
+    Rows (row_at t u (lent rows orders mailboxes) files) (room_of t) (row_count t) output₀ at i output end
 
 abbrev decreases-loop : tie.decreases-loop
-decreases-loop output₀ at t u journal rows orders mailboxes files n end₀ i₀ output end i = n - i
+decreases-loop output₀ at t u rows orders mailboxes files n end₀ i₀ output end i = n - i
 
 row-count-requires : tie.Need-row-count-requires invariant-loop decreases-loop
 row-count-requires c κs = tt
@@ -43,7 +43,7 @@ loop-again c =
     let a = at_count.before.before.before.before.before.before.args in
     let l = at_test.before.loop in
     let below = rw at_count.row_count.ensures at at_test.loop-test.true in
-    let most = row-most a.t a.u a.journal (lent a.rows.now a.orders.now a.mailboxes.now) a.files.now l.i in
+    let most = row-most a.t a.u (lent a.rows.now a.orders.now a.mailboxes.now) a.files.now l.i in
     rows_next _ _ _ _ _ l.invariant below most at_row.put-row.ensures
 
 same_length : tie.Need-same-length invariant-loop decreases-loop

@@ -56,16 +56,13 @@ sub-end c = end-within (to-data c.before.before.before.before) c.read-field11.en
 
 content-at-requires : tie.Need-content-at-requires
 content-at-requires c κs =
-    let c17 = c.before.before.before.before.before.before in
-    let c14 = c17.before.before.before.before.before.before.before.before.before.before.before.before in
-    let c11 = c14.before.before.before.before.before.before.before.before.before.before.before.before in
+    let c11 = c.before.before.before.before.before.before.before.before.before.before.before.before.before.before.before.before.before.before.before.before.before.before.before.before.before.before in
     end_after (to-data c11.before.before.before.before) c11.read-field11.ensures
 
 returns : tie.Need-returns
 unfolding parse
 returns c =
-    let c18 = c.before.before.before in
-    let c17 = c18.before.before.before.before in
+    let c17 = c.before.before.before in
     let c16 = c17.before.before.before.before in
     let c15 = c16.before.before.before.before in
     let c14 = c15.before.before.before.before in
@@ -77,8 +74,7 @@ returns c =
     let r15 = read_next r14 (omega arith) c14.read-field14.ensures in
     let r16 = read_next r15 (omega arith) c15.read-field15.ensures in
     let r17 = read_next r16 (omega arith) c16.read-field16.ensures in
-    let r18 = read_next r17 (omega arith) c17.read-field17.ensures in
-    let r = read_next r18 (omega arith) c18.read-field18.ensures in (
+    let r = read_next r17 (omega arith) c17.read-field17.ensures in (
       c.before.fields-if.ensures ∙ rw c.before.before.is_whole.ensures (rw (r.left, read-end r)),
       data-stand (to-data c11.before.before.before.before) c11.read-field11.ensures _ _ refl c.content-at.ensures,
     )
@@ -100,7 +96,6 @@ parse-spec =
     sub_at
     (λ c κs. search rules)
     sub-end
-    (λ c κs. search rules)
     (λ c κs. search rules)
     (λ c κs. search rules)
     (λ c κs. search rules)

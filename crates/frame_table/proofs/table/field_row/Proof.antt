@@ -10,7 +10,7 @@ use Rattle.frame_table.proofs.table.field_row.Tie as tie
 past : (n k : ℕ) → k ≤ n → (n ≡ k → ⊥) → suc k ≤ n
 past n k h e = omega arith
 
-last : (n : ℕ) → n < tag_count → 18 ≤ n → n ≡ 18
+last : (n : ℕ) → n < tag_count → 17 ≤ n → n ≡ 17
 last n h k = omega arith
 
 returns : tie.Need-returns
@@ -65,31 +65,11 @@ returns-17 : tie.Need-returns-17
 returns-17 c = sym (rw c.match.keys17)
 
 returns-18 : tie.Need-returns-18
-returns-18 c = sym (rw c.match.keys18)
-
-returns-19 : tie.Need-returns-19
-returns-19 c =
+returns-18 c =
     let n = c.before.args.tag in
     let r = c.match.rest in
-    let p1 = past n 0 (omega arith) r.0.0.0.0.0.0.0.0.0.0.0.0.0.0.0.0.0.1 in
-    let p2 = past n 1 p1 r.0.0.0.0.0.0.0.0.0.0.0.0.0.0.0.0.1 in
-    let p3 = past n 2 p2 r.0.0.0.0.0.0.0.0.0.0.0.0.0.0.0.1 in
-    let p4 = past n 3 p3 r.0.0.0.0.0.0.0.0.0.0.0.0.0.0.1 in
-    let p5 = past n 4 p4 r.0.0.0.0.0.0.0.0.0.0.0.0.0.1 in
-    let p6 = past n 5 p5 r.0.0.0.0.0.0.0.0.0.0.0.0.1 in
-    let p7 = past n 6 p6 r.0.0.0.0.0.0.0.0.0.0.0.1 in
-    let p8 = past n 7 p7 r.0.0.0.0.0.0.0.0.0.0.1 in
-    let p9 = past n 8 p8 r.0.0.0.0.0.0.0.0.0.1 in
-    let p10 = past n 9 p9 r.0.0.0.0.0.0.0.0.1 in
-    let p11 = past n 10 p10 r.0.0.0.0.0.0.0.1 in
-    let p12 = past n 11 p11 r.0.0.0.0.0.0.1 in
-    let p13 = past n 12 p12 r.0.0.0.0.0.1 in
-    let p14 = past n 13 p13 r.0.0.0.0.1 in
-    let p15 = past n 14 p14 r.0.0.0.1 in
-    let p16 = past n 15 p15 r.0.0.1 in
-    let p17 = past n 16 p16 r.0.1 in
-    let p18 = past n 17 p17 r.1 in
-    sym (rw (last n c.before.requires p18))
+    sym (rw (last n c.before.requires
+    (past n 16 (past n 15 (past n 14 (past n 13 (past n 12 (past n 11 (past n 10 (past n 9 (past n 8 (past n 7 (past n 6 (past n 5 (past n 4 (past n 3 (past n 2 (past n 1 (past n 0 (omega arith) r.0.0.0.0.0.0.0.0.0.0.0.0.0.0.0.0.1) r.0.0.0.0.0.0.0.0.0.0.0.0.0.0.0.1) r.0.0.0.0.0.0.0.0.0.0.0.0.0.0.1) r.0.0.0.0.0.0.0.0.0.0.0.0.0.1) r.0.0.0.0.0.0.0.0.0.0.0.0.1) r.0.0.0.0.0.0.0.0.0.0.0.1) r.0.0.0.0.0.0.0.0.0.0.1) r.0.0.0.0.0.0.0.0.0.1) r.0.0.0.0.0.0.0.0.1) r.0.0.0.0.0.0.0.1) r.0.0.0.0.0.0.1) r.0.0.0.0.0.1) r.0.0.0.0.1) r.0.0.0.1) r.0.0.1) r.0.1) r.1)))
 
 pub field-row-spec : {M : Type 1} → statement M
 field-row-spec =
@@ -112,5 +92,4 @@ field-row-spec =
     returns-15
     returns-16
     returns-17
-    returns-18
-    returns-19)
+    returns-18)

@@ -34,7 +34,7 @@ left c = put-left column_room (code_digits + 1 + offset_room + 1) c.put-column.e
 left-2 : (c : tie.After-put-answer) → c.put-answer.result + (1 + offset_room + 1) ≤ length c.put-answer.new.0
 left-2 c =
     let a = (at-start (at-column c)).args in
-    put-left code_digits (1 + offset_room + 1) c.put-answer.ensures (coded-most a.c.answered a.c.code)
+    put-left code_digits (1 + offset_room + 1) c.put-answer.ensures (coded-most a.answer a.code)
     (left (at-column c))
 
 left-3 : (c : tie.After-put-byte) → c.put_byte.result + (offset_room + 1) ≤ length c.put_byte.new.0
@@ -43,7 +43,7 @@ left-3 c = put-left 1 (offset_room + 1) c.put_byte.ensures (omega arith) (left-2
 left-4 : (c : tie.After-put-offset) → c.put-offset.result + 1 ≤ length c.put-offset.new.0
 left-4 c =
     let a = (at-start (at-column (at-answer (at-space c)))).args in
-    put-left offset_room 1 c.put-offset.ensures (offset-most _ a.q a.c.clock)
+    put-left offset_room 1 c.put-offset.ensures (offset-most _ a.q a.clock)
     (left-3 (at-space c))
 
 put-column-requires : tie.Need-put-column-requires
@@ -73,7 +73,7 @@ returns c =
     let at-end = c.before.before in
     let at_offset = at-end.before.before.before.before in
     let at_byte = at-space at_offset in
-    rw (← at_offset.before.is-shown.ensures)
+    rw (← at_offset.before.is-answered.ensures)
     (put_then (at-column (at-answer at_byte)).put-column.ensures
     (put_then (at-answer at_byte).put-answer.ensures
     (put_then at_byte.put_byte.ensures (put_then at_offset.put-offset.ensures at-end.put-byte2.ensures))))

@@ -1,5 +1,4 @@
--- `read_on` meets its contract: what came is marked up to its end, and what is left stands at the front. Assumes
--- nothing.
+-- `read_on` meets its contract: what came is marked up to its end, and what is left stands at the front. Assumes nothing.
 use Prim.Native.Nat.{◌+◌, ◌≤◌}
 use mathlib.Core.Path.{refl, sym}
 use native.Mathlib.Omega.{arith}
@@ -13,13 +12,13 @@ use Rattle.marker_session.proofs.session.read_on.Tie as tie
 
 -- the places of the body, from the last back to the first
 abbrev at_mark : tie.After-write-lines-arg → tie.After-mark
-at_mark c = c.before.before.before.before.before.before.before.before.before
+at_mark c = c.before.before.before.before.before.before.before.before.before.before.before
 
 abbrev at-input : tie.After-mark → tie.After-input
-at-input c = c.before.before.before.before.before.before.before
+at-input c = c.before.before.before.before.before.before.before.before
 
 abbrev at-start : tie.After-input → tie.Start
-at-start c = c.before.before.before.before.before.before.before.before
+at-start c = c.before.before.before.before.before.before.before.before.before
 
 end_fits : (c : tie.After-input) → (at-start c).args.t.held + c.before.read-in.result ≤ length c.before.read-in.new.0
 end_fits c = omega (arith, c.input.given, c.before.read-in.ensures.0, (at-start c).requires.1)
@@ -37,7 +36,7 @@ slice-aggregate-mark : tie.Need-slice-aggregate-mark
 slice-aggregate-mark c = sym (length-take-le _ _ (end_fits c.before.before))
 
 mark-requires : tie.Need-mark-requires
-mark-requires c κs = (at-start c.before.before.before.before.before.before).requires.3
+mark-requires c κs = (at-start c.before.before.before.before.before.before.before).requires.3
 
 write-lines-requires : tie.Need-write-lines-requires
 write-lines-requires c κs = (at-start (at-input (at_mark c))).requires.0
@@ -60,6 +59,9 @@ same-length-4 c = search rules
 same-length-5 : tie.Need-same-length-5
 same-length-5 c = search rules
 
+same-length-6 : tie.Need-same-length-6
+same-length-6 c = search rules
+
 returns : tie.Need-returns
 returns c =
     let keep = c.before.before in
@@ -70,10 +72,10 @@ returns c =
     let a = start.args in (
       keep.before.before.write-lines.ensures,
       mark.mark.ensures.2,
-      read-part a.t a.input.now (lent a.rows.now a.orders.now a.mailboxes.now)
+      read-part a.t a.input.now (lent a.rows.now a.orders.now a.mailboxes.now) a.buffer.now
           a.output.now read.last.0 read.result
           input.input.given start.pre.1 start.pre.2 read.ensures.0 read.ensures.1
-          mark.mark.result _ _ mark.mark.ensures.0 _ _ refl keep.keep.ensures,
+          mark.mark.result _ _ _ mark.mark.ensures.0 _ _ refl keep.keep.ensures,
     )
 
 pub read-on-spec : {M : Type 1} → statement M
@@ -92,4 +94,5 @@ read-on-spec =
     same-length-3
     same-length-4
     same-length-5
+    same-length-6
     returns)

@@ -1,15 +1,15 @@
 -- The arrays' lengths come by a lemma, since computing them writes the arrays out. Assumes nothing.
 use Prim.Native.Nat.{ℕ, ◌+◌, ◌*◌, ◌<◌}
-use mathlib.Core.Path.{◌≡◌, refl, sym}
+use mathlib.Core.Path.{◌≡◌, sym}
 use native.Mathlib.Omega.{arith}
 use lib.ListN.{length, replicate, length-replicate}
+use Rattle.bank_state.specs.Limits.{store_bytes, reply_room}
+use Rattle.bank_rows.specs.Layout.{state_size}
 use Rattle.frame_table.specs.Table.{width}
-use Rattle.banks.specs.Banks.{unit_store}
 use Rattle.marker_session.specs.Lines.{head_bytes}
-use Rattle.marker_session.specs.Banks.{banks_size}
 use Rattle.marker_session.specs.Marking.{lines_in}
 use Rattle.marker_session.specs.Session.{HasRoom, input_bytes, output_bytes}
-use Rattle.marker_session.proofs.Memory.{marks-zeros}
+use Rattle.marker_session.proofs.Clock.{clocked-fresh}
 use Rattle.marker_session.proofs.Parts.{session-of}
 use Rattle.marker_session.proofs.session.session.Statement.{statement}
 use Rattle.marker_session.proofs.session.session.Tie as tie
@@ -30,20 +30,23 @@ unfolding width
 slice-aggregate-print-all-2 c = zeros output_bytes
 
 slice-aggregate-print-all-3 : tie.Need-slice-aggregate-print-all-3
-slice-aggregate-print-all-3 c = zeros banks_size
+slice-aggregate-print-all-3 c = zeros state_size
 
 slice-aggregate-print-all-4 : tie.Need-slice-aggregate-print-all-4
-slice-aggregate-print-all-4 c = zeros unit_store
+slice-aggregate-print-all-4 c = zeros store_bytes
 
 slice-aggregate-print-all-5 : tie.Need-slice-aggregate-print-all-5
-slice-aggregate-print-all-5 c = zeros unit_store
+slice-aggregate-print-all-5 c = zeros store_bytes
+
+slice-aggregate-print-all-6 : tie.Need-slice-aggregate-print-all-6
+slice-aggregate-print-all-6 c = zeros reply_room
 
 print-all-requires : tie.Need-print-all-requires
 unfolding width
-print-all-requires c κs = (has_room input_bytes output_bytes (omega arith), marks-zeros banks_size unit_store refl refl)
+print-all-requires c κs = (has_room input_bytes output_bytes (omega arith), clocked-fresh)
 
 returns : tie.Need-returns
-returns c = session-of _ _ _ c.before.before.before.before.before.print-all.ensures
+returns c = session-of _ _ _ _ c.before.before.before.before.before.before.print-all.ensures
 
 pub session-spec : {M : Type 1} → statement M
 session-spec =
@@ -54,5 +57,6 @@ session-spec =
     slice-aggregate-print-all-3
     slice-aggregate-print-all-4
     slice-aggregate-print-all-5
+    slice-aggregate-print-all-6
     print-all-requires
     returns)

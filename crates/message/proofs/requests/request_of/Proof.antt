@@ -3,21 +3,12 @@ use Rattle.message.proofs.requests.request_of.Statement.{statement}
 use Rattle.message.proofs.requests.request_of.Tie as tie
 
 returns : tie.Need-returns
-returns c =
-    let at_with = c.before.before.before in
-    rw (
-      c.with4.ensures,
-      c.before.with3.ensures,
-      c.before.before.with2.ensures,
-      at_with.with.ensures,
-      at_with.before.none.ensures,
-    )
+returns c = rw (c.with3.ensures, c.before.with2.ensures, c.before.before.with.ensures, c.before.before.before.none.ensures)
 
 pub request-of-spec : {M : Type 1} → statement M
 request-of-spec =
     tie.close
     (tie.spec
-    (λ c κs. tt)
     (λ c κs. tt)
     (λ c κs. tt)
     (λ c κs. tt)

@@ -4,7 +4,7 @@ use mathlib.Core.List.{List}
 use mathlib.Core.Path.{◌≡◌, refl, sym, ◌∙◌}
 use lib.ListN.{length}
 use borrow.Author.Tests.{not-true, not-false}
-use Rattle.banks.specs.Banks.{lent_banks}
+use Rattle.bank_steps.specs.Lent.{lent}
 use Rattle.unit_state.specs.declared.record.Kind.{Kind}
 use Rattle.unit_state.specs.declared.record.Kind.TheVariants.{
   Frame,
@@ -20,12 +20,12 @@ use Rattle.unit_state.specs.declared.record.Kind.TheVariants.{
   Counts,
   NoCall,
 }
-use Rattle.unit_rows.specs.Rows.{journals_from, unit_from}
+use Rattle.unit_rows.specs.Rows.{unit_from}
 use Rattle.unit_rows.specs.Lines.{lines_of}
 use Rattle.unit.specs.State.{State, memory, state_of}
 use Rattle.unit.specs.Call.{UnitCall, value_day_step, count_step, step_of, unit_call}
-use Rattle.unit.proofs.Rooms.{RoomsLengths, rooms-lengths}
-use Rattle.unit.proofs.Steps.{handed-named, ready, called}
+use Rattle.unit.proofs.Begins.{RoomsLengths, rooms-lengths}
+use Rattle.unit.proofs.Steps.{handed-run, ready, called}
 use Rattle.unit.proofs.ImageRoom.{away-within, image-within}
 use Rattle.unit.proofs.LineSteps.{line-made-named, line-put-named}
 use borrow.Author.Rules.{rules}
@@ -36,9 +36,8 @@ use Rattle.unit.proofs.call.call.Tie as tie
 abbrev unit-at : tie.After-call-of → State
 unit-at c =
     let a = c.before.before.before.before.before.before.before.before.before.before.before.before.before.args in
-    state_of (unit_from a.runs.now a.nonces.now)
-    (memory (lent_banks a.rows.now (journals_from a.journals.now) a.orders.now a.mailboxes.now)
-    a.payloads.now a.files.now a.buffer.now a.room.now
+    state_of (unit_from a.runs.now a.nonces.now a.row.now)
+    (memory (lent a.rows.now a.orders.now a.mailboxes.now) a.payloads.now a.files.now a.buffer.now a.room.now
     (lines_of a.lines.now a.stores.now))
 
 abbrev record-at : tie.After-call-of → List ℕ
@@ -72,7 +71,7 @@ run-call-requires c κs =
 journal-call-requires : tie.Need-journal-call-requires
 journal-call-requires c κs =
     let at_told = c.before.before.before in
-    handed-named _ _ at_told.before.before.call-of.ensures at_told.enum-told3.given.1
+    handed-run _ _ at_told.before.before.call-of.ensures at_told.enum-told3.given.1
 
 away-call-requires : tie.Need-away-call-requires
 away-call-requires c κs =
@@ -110,18 +109,18 @@ returns-3 : tie.Need-returns-3
 returns-3 c =
     let at-file = c.before.before.before.before in
     let at_told = at-file.before.before.before in
-    by_kind at_told.before.before File _ at_told.enum-told2.given.1 (at-file.file-call.ensures _ _ _ _ _ _ _ _)
+    by_kind at_told.before.before File _ at_told.enum-told2.given.1 (at-file.file-call.ensures _ _ _ _ _ _ _)
 
 returns-4 : tie.Need-returns-4
 returns-4 c =
     let at-run = c.before.before.before.before.before.before in
     let at_told = at-run.before.before.before.before.before.before.before in
-    by_kind at_told.before.before (Run _) _ at_told.kind.given.1 (at-run.run_call.ensures _ _ _)
+    by_kind at_told.before.before (Run _) _ at_told.kind.given.1 (at-run.run_call.ensures _ _ _ _)
 
 returns-5 : tie.Need-returns-5
 returns-5 c =
     let at_told = c.before.before.before.before in
-    by_kind at_told.before.before Journal _ at_told.enum-told3.given.1 (c.journal-call.ensures _ _ _ _ _ _ _ _)
+    by_kind at_told.before.before Journal _ at_told.enum-told3.given.1 (c.journal-call.ensures _)
 
 returns-6 : tie.Need-returns-6
 returns-6 c =

@@ -10,8 +10,7 @@ use Rattle.journal.specs.Events.{record_count, max_entries, no_event, event_at}
 use Rattle.journal.specs.Row.{row_after}
 use Rattle.journal.proofs.Entering.{Entering}
 use Rattle.journal.proofs.Mixed.{mixed}
-use borrow.Author.Rules.{rules}
-use Rattle.unit_rows.specs.Rows.{row_size, journal_from}
+use Rattle.unit_rows.specs.Rows.{journal_from}
 use Rattle.unit_rows.proofs.Rows.{entering-row, given-on, moved_on}
 use Rattle.unit_rows.proofs.events.enter.Statement.{statement}
 use Rattle.unit_rows.proofs.events.enter.Tie as tie
@@ -20,7 +19,6 @@ abbrev invariant-loop : tie.invariant-loop
 invariant-loop row₀ events clock batch by start end i₀ row i =
     (i₀ ≤ i) × (i ≤ start)
     × (journal_from row ≡ mixed i (row_after events clock batch (journal_from row₀)) (journal_from row₀))
-    × (length row ≡ row_size)
 
 abbrev decreases-loop : tie.decreases-loop
 decreases-loop row₀ events clock batch by start end i₀ row i = start - i
@@ -31,26 +29,25 @@ invariant-loop2 row₀ events clock batch by start end i₀ row i =
     × ((zs xs : List Event) → length zs ≡ length xs → journal_from row₀ ≡ mixed i₀ zs xs
     → ((k : ℕ) → start ≤ k → k < end → event_at events clock batch (k - start) ≡ get_or zs k no_event)
     → journal_from row ≡ mixed i zs xs)
-    × (length row ≡ row_size)
 
 abbrev decreases-loop2 : tie.decreases-loop2
 decreases-loop2 row₀ events clock batch by start end i₀ row i = end - i
 
 -- what entering goes by
 known : (c : tie.After-places-of invariant-loop decreases-loop invariant-loop2 decreases-loop2)
-    → let a = c.before.before.args in
+    → let a = c.before.args in
     let xs = journal_from a.row.now in
     Entering a.events a.clock a.batch c.places_of.result xs (row_after a.events a.clock a.batch xs)
 known c =
-    let a = c.before.before.args in
+    let a = c.before.args in
     let nine : length a.batch.entries ≡ max_entries =
-    sym (length-map a.batch.entries _) ∙ c.before.before.well-formed.1.1.1.0.1.1.1.0.1.0.1 in
+    sym (length-map a.batch.entries _) ∙ c.before.well-formed.1.1.1.0.1.1.1.0.1.0.1 in
     entering-row a.row.now a.events a.clock a.batch c.places_of.result nine c.places_of.ensures
 
 loop-holds : tie.Need-loop-init invariant-loop decreases-loop invariant-loop2 decreases-loop2
 loop-holds c =
     let k = known c in
-    (omega arith, k.in_order.0, sym k.begins, c.before.before.requires)
+    (omega arith, k.in_order.0, sym k.begins)
 
 -- a place that is given a record, and one that is given an event
 moves : (c : tie.In-loop invariant-loop decreases-loop invariant-loop2 decreases-loop2)
@@ -63,7 +60,7 @@ moves c =
 takes : (c : tie.In-loop2 invariant-loop decreases-loop invariant-loop2 decreases-loop2)
     → let i = c.before.loop2.i in
     let start = c.before.before.before.before in
-    (i < record_count) × (start.before.before.args.events + max_entries < 2 ^ 64) × (i - start.places_of.result.start < max_entries)
+    (i < record_count) × (start.before.args.events + max_entries < 2 ^ 64) × (i - start.places_of.result.start < max_entries)
 takes c =
     let l = c.before.loop2 in
     let t = (known c.before.before.before.before).takes l.i l.invariant.0 (omega (arith, c.loop2-test.true)) in
@@ -73,36 +70,33 @@ add-record-at : tie.Need-overflow-add-record-at invariant-loop decreases-loop in
 add-record-at c = omega (arith, moves c.before)
 
 record-at-requires : tie.Need-record-at-requires invariant-loop decreases-loop invariant-loop2 decreases-loop2
-record-at-requires c κs = (omega (arith, moves c.before), c.before.before.loop.invariant.3)
+record-at-requires c κs = omega (arith, moves c.before)
 
 set-record-requires : tie.Need-set-record-requires invariant-loop decreases-loop invariant-loop2 decreases-loop2
-set-record-requires c κs = (omega (arith, moves c.before.before.before), search rules)
+set-record-requires c κs = omega (arith, moves c.before.before.before)
 
 add-i : tie.Need-overflow-add-i invariant-loop decreases-loop invariant-loop2 decreases-loop2
-add-i c = omega (arith, moves c.before.before.before.before.before.before)
+add-i c = omega (arith, moves c.before.before.before.before)
 
 loop-less : tie.Need-loop-smaller invariant-loop decreases-loop invariant-loop2 decreases-loop2
-loop-less c = omega (arith, c.before.before.before.before.before.before.loop-test.true)
+loop-less c = omega (arith, c.before.before.before.before.loop-test.true)
 
 loop-again : tie.Need-loop-preserved invariant-loop decreases-loop invariant-loop2 decreases-loop2
 loop-again c =
-    let at_set = c.before.before in
-    let at-record = at_set.before.before in
-    let in-loop = at-record.before.before in
+    let in-loop = c.before.before.before.before in
     let l = in-loop.before.loop in
     let k = known in-loop.before.before in
     let below = in-loop.loop-test.true in (
       omega (arith, l.invariant.0),
       omega (arith, below),
-      moved_on _ _ _ _ l.i _ k.same l.invariant.2 at_set.set-record.ensures _ at-record.record-at.ensures
+      moved_on _ _ _ _ l.i _ k.same l.invariant.2 c.set-record.ensures _ c.before.before.record-at.ensures
           (k.moved l.i l.invariant.0 (omega (arith, below))),
-      search rules,
     )
 
 loop2-holds : tie.Need-loop2-init invariant-loop decreases-loop invariant-loop2 decreases-loop2
 loop2-holds c =
     let k = known c.before.before in
-    (omega (arith, c.loop-test.false), omega (arith, c.before.loop.invariant.1, k.in_order.1), λ zs xs same begins taken. begins, c.before.loop.invariant.3)
+    (omega (arith, c.loop-test.false), omega (arith, c.before.loop.invariant.1, k.in_order.1), λ zs xs same begins taken. begins)
 
 sub-event-at : tie.Need-overflow-sub-event-at invariant-loop decreases-loop invariant-loop2 decreases-loop2
 sub-event-at c = omega (arith, c.before.loop2.invariant.0)
@@ -111,31 +105,25 @@ event-at-requires : tie.Need-event-at-requires invariant-loop decreases-loop inv
 event-at-requires c κs = ((takes c).1, (takes c).2)
 
 set-record-requires-2 : tie.Need-set-record-requires-2 invariant-loop decreases-loop invariant-loop2 decreases-loop2
-set-record-requires-2 c κs = ((takes c.before.before).0, c.before.before.before.loop2.invariant.3)
+set-record-requires-2 c κs = (takes c.before.before).0
 
 add-i-2 : tie.Need-overflow-add-i-2 invariant-loop decreases-loop invariant-loop2 decreases-loop2
-add-i-2 c = omega (arith, (takes c.before.before.before.before.before).0)
+add-i-2 c = omega (arith, (takes c.before.before.before).0)
 
 loop2-less : tie.Need-loop2-smaller invariant-loop decreases-loop invariant-loop2 decreases-loop2
-loop2-less c = omega (arith, c.before.before.before.before.before.loop2-test.true)
+loop2-less c = omega (arith, c.before.before.before.loop2-test.true)
 
 loop2-again : tie.Need-loop2-preserved invariant-loop decreases-loop invariant-loop2 decreases-loop2
 loop2-again c =
-    let at_set = c.before.before in
-    let at-event = at_set.before.before in
-    let in-loop = at-event.before in
+    let in-loop = c.before.before.before in
     let l = in-loop.before.loop2 in
     let below = in-loop.loop2-test.true in (
       omega (arith, l.invariant.0),
       omega (arith, below),
       λ zs xs same begins taken.
-          given-on zs xs _ _ l.i _ same (l.invariant.2 zs xs same begins taken) at_set.set-record2.ensures
-          (at-event.event-at.ensures ∙ taken l.i l.invariant.0 (omega (arith, below))),
-      search rules,
+          given-on zs xs _ _ l.i _ same (l.invariant.2 zs xs same begins taken) c.set-record2.ensures
+          (c.before.before.event-at.ensures ∙ taken l.i l.invariant.0 (omega (arith, below))),
     )
-
-same_length : tie.Need-same-length invariant-loop decreases-loop invariant-loop2 decreases-loop2
-same_length c = c.before.loop2.invariant.3 ∙ sym c.before.before.before.before.before.before.requires
 
 returns : tie.Need-returns invariant-loop decreases-loop invariant-loop2 decreases-loop2
 returns c =
@@ -143,7 +131,7 @@ returns c =
     let first = c.before.before.before.loop in
     let at_places = c.before.before.before.before in
     let k = known at_places in
-    let a = at_places.before.before.args in
+    let a = at_places.before.args in
     let xs : List Event = journal_from a.row.now in
     let zs : List Event = row_after a.events a.clock a.batch xs in
     let last : second.i ≡ at_places.places_of.result.end = omega (arith, c.loop2-test.false, second.invariant.1) in
@@ -172,5 +160,4 @@ enter_spec =
     add-i-2
     loop2-less
     loop2-again
-    same_length
     returns)

@@ -19,7 +19,7 @@ decreases-loop row held₀ i₀ held i = record_count - i
 
 loop-again : tie.Need-loop-preserved invariant-loop decreases-loop
 loop-again c =
-    let row = c.before.before.before.before.before.args.row.now in
+    let row = c.before.before.before.before.args.row.now in
     let l = c.before.before.loop in
     let e = c.record-at2 in (
       search rules,
@@ -31,7 +31,7 @@ loop-again c =
 returns : tie.Need-returns invariant-loop decreases-loop
 returns c =
     let l = c.before.loop in
-    copied_all l.held (journal_from c.before.before.before.before.args.row.now) record_count l.i l.invariant.1 (length-journal _) (omega arith) l.invariant.2
+    copied_all l.held (journal_from c.before.before.before.args.row.now) record_count l.i l.invariant.1 (length-journal _) (omega arith) l.invariant.2
 
 pub journal-of-spec : {M : Type 1} → statement M
 journal-of-spec =

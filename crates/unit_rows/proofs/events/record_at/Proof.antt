@@ -6,7 +6,7 @@ use Rattle.unit_rows.proofs.events.record_at.Statement.{statement}
 use Rattle.unit_rows.proofs.events.record_at.Tie as tie
 
 returns : tie.Need-returns
-returns c = rw c.before.before.before.before.before.before.before.kind-of.ensures (sym (record-read c.before.before.before.before.before.before.before.before.before.before.args.row.now c.before.before.before.before.before.before.before.before.before.before.args.i c.before.before.before.before.before.before.before.before.before.before.requires.0))
+returns c = rw c.before.before.before.before.before.before.before.kind-of.ensures (sym (record-read c.before.before.before.before.before.before.before.before.before.args.row.now c.before.before.before.before.before.before.before.before.before.args.i c.before.before.before.before.before.before.before.before.before.requires))
 
 pub record-at-spec : {M : Type 1} → statement M
 record-at-spec =

@@ -9,11 +9,8 @@ use Rattle.unit_rows.proofs.events.set_record.Tie as tie
 
 returns : tie.Need-returns
 returns c =
-    let at-put = c.before.before in
-    let start = at-put.before.before.before in
-    let a = start.args in
-    ap journal_from at-put.put-event.ensures
-    ∙ record-set a.row.now a.i start.requires.0 a.e (omega (arith, start.requires.1))
+    let a = c.before.before.args in
+    ap journal_from c.put-event.ensures ∙ record-set a.row.now a.i c.before.before.requires a.e (omega arith)
 
 pub set-record-spec : {M : Type 1} → statement M
 set-record-spec =
@@ -21,5 +18,4 @@ set-record-spec =
     (tie.spec
     (λ c. search rules)
     (λ c κs. search rules)
-    (λ c. search rules)
     returns)

@@ -7,7 +7,7 @@ use Rattle.unit_rows.proofs.runs.client_at.Tie as tie
 
 returns : tie.Need-returns
 returns c =
-    let at-edition = c.before.before.before.before.before.before.before.before.before.before.before.before in
+    let at-edition = c.before.before.before.before.before.before.before.before.before.before.before in
     let at-step = at-edition.before.before in
     let at-direction = at-step.before.before in
     let at_stage = at-direction.before.before in
@@ -35,9 +35,6 @@ client-at-spec =
     (λ c. search rules)
     (λ c. search rules)
     (λ c κs. search rules)
-    (λ c. search rules)
-    (λ c. search rules)
-    (λ c. search rules)
     (λ c. search rules)
     (λ c. search rules)
     (λ c. search rules)

@@ -24,7 +24,7 @@ returns c =
     ap length at-bytes.bytes-at.ensures ∙ simp (length-take, length-drop) (omega (arith, start.requires)) in
     rw (
       at-client.client-at.ensures,
-      ← number_at run_width a.i 16 a.runs.now (omega arith),
+      ← number_at run_width a.i 15 a.runs.now (omega arith),
     )
     (ap (run_of (take run_width (drop (run_width * a.i) a.runs.now)))
     (c.before.before.copy.ensures ∙ overwrite-all _ _ (omega (arith, n)) ∙ at-bytes.bytes-at.ensures)

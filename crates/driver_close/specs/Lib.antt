@@ -1,2 +1,0 @@
--- The lengths of what is lent for the closing tables.
-pub mod Sizes

@@ -1,2 +1,0 @@
-// What the driver writes at the end of its input.
-pub mod tables;

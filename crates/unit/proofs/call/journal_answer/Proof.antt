@@ -1,0 +1,25 @@
+-- `journal_answer` meets its contract. Assumes nothing.
+use borrow.Author.Rules.{rules}
+use Rattle.unit.proofs.call.journal_answer.Statement.{statement}
+use Rattle.unit.proofs.call.journal_answer.Tie as tie
+
+returns : tie.Need-returns
+returns c = rw (c.before.before.answer.given.1, c.order-name.ensures)
+
+returns-2 : tie.Need-returns-2
+returns-2 c = rw c.enum_told.given.1
+
+returns-3 : tie.Need-returns-3
+returns-3 c = rw c.enum-told2.given.1
+
+pub journal-answer-spec : {M : Type 1} → statement M
+journal-answer-spec =
+    tie.close
+    (tie.spec
+    (λ c. search rules)
+    (λ c κs. tt)
+    (λ c. search rules)
+    (λ c. search rules)
+    returns
+    returns-2
+    returns-3)

@@ -1,4 +1,0 @@
--- The laws that several proofs cite.
-pub mod Begins
-pub mod Runs
-pub mod Named

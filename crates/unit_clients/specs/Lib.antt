@@ -1,2 +1,0 @@
--- The definitions of a client run's calls by a record.
-pub mod Clients

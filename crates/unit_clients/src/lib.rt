@@ -1,2 +1,0 @@
-// The client half of the unit's call: one client run, called by a record.
-pub mod clients;
