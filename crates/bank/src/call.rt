@@ -37,21 +37,21 @@ use message::segments::segment_of;
 use octets::bytes::number;
 
 // The reply's length in the lent buffer, or document 01's number 1.
-#[derive(Drop)]
+#[derive(Clone, Copy)]
 pub enum FrameAnswer {
     Reply(usize),
     WrongLength,
 }
 
 // A call's answer, and the return code of its reply, 0 where there is none.
-#[derive(Drop)]
+#[derive(Clone, Copy)]
 pub struct FrameOut {
     pub answer: FrameAnswer,
     pub code: u64,
 }
 
 // What a call on the bank's rows comes to: its answer, the events that it enters, and its request's verdict.
-#[derive(Drop)]
+#[derive(Clone, Copy)]
 pub struct FrameStep {
     pub out: FrameOut,
     pub batch: Batch,

@@ -16,7 +16,7 @@ use bank_steps::mailboxes::is_no_mailbox;
 use message::limits::FILE_BYTES;
 
 // The file is in the mailbox, or document 01's numbers 1 to 4.
-#[derive(Drop)]
+#[derive(Clone, Copy)]
 pub enum FileAnswer {
     Done,
     WrongLength,

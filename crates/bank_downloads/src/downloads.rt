@@ -14,7 +14,7 @@ use message::limits::MAX_ATTEMPTS;
 use message::segments::is_next;
 
 // The download after a request, where it stays open, and what the request did.
-#[derive(Drop)]
+#[derive(Clone, Copy)]
 pub struct DownloadStep {
     pub entry: Download,
     pub action: DownloadAction,

@@ -24,7 +24,7 @@ use opening_counts::seven::can_grow;
 const EVENTS_LIMIT: u64 = 18446744073709551607;
 
 // What a frame call comes to, but for the row: its answer, the events before it, its clock, and the events to enter.
-#[derive(Drop)]
+#[derive(Clone, Copy)]
 pub struct FrameCore {
     pub out: FrameOut,
     pub before: u64,

@@ -22,7 +22,7 @@ use opening_counts::moves::{counts_after, less};
 use opening_counts::seven::Counts;
 
 // What a call comes to: its answer, the events that it enters, and the counts after it.
-#[derive(Drop)]
+#[derive(Clone, Copy)]
 pub struct CountedStep {
     pub out: FrameOut,
     pub batch: Batch,

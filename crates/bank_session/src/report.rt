@@ -9,7 +9,7 @@ use bank_sound::sound::is_sound;
 use opening_counts::seven::{Counts, can_grow};
 
 // The seven in document 02's order, or document 01's number 1.
-#[derive(Drop)]
+#[derive(Clone, Copy)]
 pub enum CountAnswer {
     Counted(Counts),
     WrongLength,

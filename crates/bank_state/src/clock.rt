@@ -5,7 +5,7 @@ ghost use Rattle.bank_state.specs.Clock.{is_behind};
 use frame_table::fields::Bits128;
 
 // Which downloads end: those idle at this clock, every download of a mailbox, or one transaction.
-#[derive(Drop)]
+#[derive(Clone, Copy)]
 pub enum Ended {
     Idle(u64),
     Mailbox(u64),

@@ -6,7 +6,7 @@ ghost use Rattle.bank_state.specs.State.{no_place};
 use frame_table::fields::Bits128;
 
 // What an order place is used for.
-#[derive(Drop)]
+#[derive(Clone, Copy)]
 pub enum Use {
     Free,
     Open,
@@ -16,7 +16,7 @@ pub enum Use {
 // An order place: an open upload or a booked order. `number` is its order number in its series, `taken` counts its
 // segments taken, `last` is the clock at its last fitting request, `length` counts its bytes; `signers` is the set of a
 // booked order's signers, of which subscriber s is the bit of value 2 to the power s - 1, and 0 of any other place.
-#[derive(Drop)]
+#[derive(Clone, Copy)]
 pub struct Place {
     pub used: Use,
     pub transaction: Bits128,
@@ -31,7 +31,7 @@ pub struct Place {
 }
 
 // An open download of its subscriber's mailbox.
-#[derive(Drop)]
+#[derive(Clone, Copy)]
 pub struct Download {
     pub used: bool,
     pub transaction: Bits128,

@@ -206,7 +206,7 @@ fn on_transaction(
 }
 
 // What a request is on: an opening of either direction, a transaction, or a booked order that is signed.
-#[derive(Drop)]
+#[derive(Clone, Copy)]
 pub enum Target {
     UploadOpening,
     DownloadOpening,

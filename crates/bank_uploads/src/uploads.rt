@@ -17,7 +17,7 @@ use message::limits::MAX_ATTEMPTS;
 use message::segments::is_next;
 
 // The upload's place after a request, and what the request did.
-#[derive(Drop)]
+#[derive(Clone, Copy)]
 pub struct UploadOut {
     pub place: Place,
     pub action: UploadAction,

@@ -7,21 +7,21 @@ use message::codes::ReturnCode;
 
 // What a request is judged with besides the bank: the lent ID bytes as a number, with which a transaction ID begins, and
 // what the other banks count of the open transactions that all share (document 02, card 13).
-#[derive(Drop)]
+#[derive(Clone, Copy)]
 pub struct Context {
     pub prefix: u64,
     pub others: u64,
 }
 
 // The direction of a transaction.
-#[derive(Drop)]
+#[derive(Clone, Copy)]
 pub enum Direction {
     Upload,
     Download,
 }
 
 // A request to a transaction, by its form.
-#[derive(Drop)]
+#[derive(Clone, Copy)]
 pub enum TransactionRequest {
     UploadTransfer,
     DownloadTransfer,
@@ -30,7 +30,7 @@ pub enum TransactionRequest {
 
 // What a request does to an upload: opens it (with its order's number), has a segment taken, has the last one taken and
 // so books the order, gets the recovery point k, or has it cancelled with this code.
-#[derive(Drop)]
+#[derive(Clone, Copy)]
 pub enum UploadAction {
     Opened(u64),
     Took,
@@ -41,7 +41,7 @@ pub enum UploadAction {
 
 // What a request does to a download: opens it, has a segment delivered or sent again (each with N), gets the recovery
 // point d, has it cancelled as the sixth attempt, or has its receipt answered 011000 (confirmed) or 011001 (declined).
-#[derive(Drop)]
+#[derive(Clone, Copy)]
 pub enum DownloadAction {
     Opened(u64),
     Delivered(u64),
@@ -53,14 +53,14 @@ pub enum DownloadAction {
 }
 
 // What a request does to one transaction.
-#[derive(Drop)]
+#[derive(Clone, Copy)]
 pub enum Action {
     Upload(UploadAction),
     Download(DownloadAction),
 }
 
 // A booked order that is signed: its upload's transaction ID, and its number.
-#[derive(Drop)]
+#[derive(Clone, Copy)]
 pub struct SignedOrder {
     pub transaction: Bits128,
     pub number: u64,
@@ -68,7 +68,7 @@ pub struct SignedOrder {
 
 // What a request comes to: it is unreadable, it is refused with a code and changes nothing, it acts on the transaction
 // with this ID, or it signs this booked order of its owner's, by a signer more or by one again.
-#[derive(Drop)]
+#[derive(Clone, Copy)]
 pub enum Verdict {
     Unreadable,
     Refused(ReturnCode),

@@ -4,7 +4,7 @@ ghost use Rattle.calendar.specs.Dates.{first_year, year_count, leap_day, year_st
 ghost use Rattle.calendar.specs.Dates.{date_of, last_day};
 
 // A date; months and days count from 1.
-#[derive(Drop)]
+#[derive(Clone, Copy)]
 pub struct Date {
     pub year: u64,
     pub month: u64,

@@ -6,7 +6,7 @@ use crate::business_days::business_day_from;
 use crate::dates::{Date, LAST_DAY, date_of};
 
 // The value day; or number 10, where it would lie after 2199.
-#[derive(Drop)]
+#[derive(Clone, Copy)]
 pub enum ValueDay {
     Day(Date),
     TooLate,

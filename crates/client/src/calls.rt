@@ -25,13 +25,13 @@ use message::limits::SEGMENT_BYTES;
 use octets::bytes::copy;
 
 // A client with its run: the calls are its methods.
-#[derive(Drop)]
+#[derive(Clone, Copy)]
 pub struct Client {
     pub run: ClientRun,
 }
 
 // What a call returns: the client with its next run, and the answer.
-#[derive(Drop)]
+#[derive(Clone, Copy)]
 pub struct Outcome {
     pub client: Client,
     pub answer: Answer,

@@ -12,7 +12,7 @@ use journal::row::find;
 
 // What the call answers: the closing word of a run that is unclear no longer, that the run is as it was, or document
 // 01's number 1.
-#[derive(Drop)]
+#[derive(Clone, Copy)]
 pub enum JournalAnswer {
     Closed(Word),
     Unchanged,
@@ -20,7 +20,7 @@ pub enum JournalAnswer {
 }
 
 // What the call returns: the client with its next run, and the answer.
-#[derive(Drop)]
+#[derive(Clone, Copy)]
 pub struct JournalOutcome {
     pub client: Client,
     pub answer: JournalAnswer,

@@ -23,14 +23,14 @@ pub const MAX_FIRST_EXCHANGE: u64 = 4_294_967_104;
 pub const MAX_EXCHANGE: u64 = 4_294_967_295;
 
 // The direction of a run's order.
-#[derive(Drop)]
+#[derive(Clone, Copy)]
 pub enum Direction {
     Upload,
     Download,
 }
 
 // The closing words of document 01. "Lodged" names the order of the run, by `order_name`.
-#[derive(Drop)]
+#[derive(Clone, Copy)]
 pub enum Word {
     Lodged,
     NotLodged,
@@ -42,14 +42,14 @@ pub enum Word {
 
 // What begin tells an upload run: card 11's "its edition, and in 2.4 its number", any four bytes as field 0E has them.
 // Edition 2.5 leaves the number out, and a download run both.
-#[derive(Drop)]
+#[derive(Clone, Copy)]
 pub struct RunTerms {
     pub edition: Edition,
     pub number: u64,
 }
 
 // What a run is begun with: its order's direction, its subscriber, the first exchange number, and its terms.
-#[derive(Drop)]
+#[derive(Clone, Copy)]
 pub struct RunParameters {
     pub direction: Direction,
     pub subscriber: u64,
@@ -57,7 +57,7 @@ pub struct RunParameters {
     pub terms: RunTerms,
 }
 
-#[derive(Drop)]
+#[derive(Clone, Copy)]
 pub enum Stage {
     NotBegun,
     Running,
@@ -65,7 +65,7 @@ pub enum Stage {
 }
 
 // The step whose request is outstanding.
-#[derive(Drop)]
+#[derive(Clone, Copy)]
 pub enum Step {
     Opening,
     Segment,
@@ -76,7 +76,7 @@ pub enum Step {
 // repeats and returns, `terms` are those that begin brought, `transaction` and `number` (the order number) are known once
 // opened, `segments` is N, 0 while unknown. An upload has its payload's `length` and the highest segment `issued`; a download has the bytes held as
 // `length`: those of the segments before the outstanding one, where N + 1 stands for the receipt.
-#[derive(Drop)]
+#[derive(Clone, Copy)]
 pub struct ClientRun {
     pub stage: Stage,
     pub direction: Direction,
@@ -94,7 +94,7 @@ pub struct ClientRun {
 }
 
 // Why a call is given a number: the time, a buffer, the first exchange number, the subscriber, or the run's stage.
-#[derive(Drop)]
+#[derive(Clone, Copy)]
 pub enum Refusal {
     TimeTooHigh,
     WrongBuffer,
@@ -117,14 +117,14 @@ pub fn refusal_number(refusal: Refusal) -> u64
 }
 
 // Whether a call is given a number.
-#[derive(Drop)]
+#[derive(Clone, Copy)]
 pub enum Ruling {
     Refuse(Refusal),
     Accept,
 }
 
 // What a call answers: the length of the request issued in the lent buffer, nothing, the closing word, or a number.
-#[derive(Drop)]
+#[derive(Clone, Copy)]
 pub enum Answer {
     Request(usize),
     Ignored,
@@ -134,7 +134,7 @@ pub enum Answer {
 
 // What an event leads to: nothing, the opening's answer taken, a segment's answer taken, a return to after a segment,
 // the request again, or the run's end.
-#[derive(Drop)]
+#[derive(Clone, Copy)]
 pub enum Decision {
     Ignore,
     Opened,
@@ -145,7 +145,7 @@ pub enum Decision {
 }
 
 // The lengths of what is lent to a call.
-#[derive(Drop)]
+#[derive(Clone, Copy)]
 pub struct Lengths {
     pub payload: usize,
     pub file: usize,

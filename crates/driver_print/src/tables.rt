@@ -38,7 +38,7 @@ pub const TABLE_ROOM: usize = BOOK_HEADER_ROOM
     + RUN_COUNT * (ORDER_COLUMNS_ROOM + 2 * FILE_BYTES + 1);
 
 // The closing tables.
-#[derive(Drop)]
+#[derive(Clone, Copy)]
 pub enum Table {
     Book,
     Mailboxes,

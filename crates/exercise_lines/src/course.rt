@@ -17,7 +17,7 @@ pub const LINE_MOVES: u16 = 500;
 // Where the play stands: the client run, the letter and the fate of the next move, whether its request repeats one,
 // whether the run has issued a request that is still to be put in, whether it has closed, and what is still to come of
 // the request and of the reply put in last.
-#[derive(Drop)]
+#[derive(Clone, Copy)]
 pub struct Course {
     pub run: u8,
     pub letter: u8,

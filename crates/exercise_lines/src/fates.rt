@@ -7,7 +7,7 @@ use octets::bytes::front;
 
 // The moves still to come of a message that was put in, each by its fate, 0 where there is none: of the message itself,
 // of its second copy, and of the message held longest, which comes out late.
-#[derive(Drop)]
+#[derive(Clone, Copy)]
 pub struct Fates {
     pub first: u8,
     pub second: u8,

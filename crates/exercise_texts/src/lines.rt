@@ -153,7 +153,7 @@ fn fields_of(letter: u8, frame: &[u8]) -> Fields {
 
 // The values of a move's line that the frame does not say, or not in every message: the client run, or the owner of the
 // order that is signed, the subscriber, and the order's bytes.
-#[derive(Drop)]
+#[derive(Clone, Copy)]
 struct Party {
     pub run: u64,
     pub subscriber: u64,

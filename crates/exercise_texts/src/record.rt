@@ -105,7 +105,7 @@ fn body_at(s: &[u8], at: usize) -> &[u8] {
 
 // What stands before the body of a record: the letter with the run or the mailbox, in so many bytes, after them the time
 // or a length in the image room, in so many bytes, and a begin's order.
-#[derive(Drop)]
+#[derive(Clone, Copy)]
 struct Head {
     pub name: u64,
     pub named: usize,

@@ -6,7 +6,7 @@ use octets::bytes::behind;
 pub const RUN_COUNT: usize = 6;
 
 // An order: its subscriber, and the bytes of its payload or of its statement.
-#[derive(Drop)]
+#[derive(Clone, Copy)]
 pub struct Order {
     pub subscriber: u16,
     pub bytes: u16,
@@ -44,7 +44,7 @@ pub fn order_of(run: u8) -> Order {
 
 // What an upload run is told at begin, as its record has it: its edition, 1 for 2.4 and 0 for 2.5, and the order number
 // that it brings in 2.4.
-#[derive(Drop)]
+#[derive(Clone, Copy)]
 pub struct Terms {
     pub edition: u64,
     pub number: u64,
@@ -82,7 +82,7 @@ pub const SEED: u32 = 7;
 
 // A signing: the subscriber who signs, the order by its owner and its number in the owner's series, and the exchange
 // number whose nonce it has, as a client run has that of its own.
-#[derive(Drop)]
+#[derive(Clone, Copy)]
 pub struct Signature {
     pub subscriber: u64,
     pub owner: u64,
@@ -146,7 +146,7 @@ const MOVE_BYTES: usize = 4;
 
 // A move: its number, from 1 on, its letter, its client run or signing, what becomes of its message, whether it comes
 // over an hour later, and whether its request repeats one: no reply came just before, and it is no late copy.
-#[derive(Drop)]
+#[derive(Clone, Copy)]
 pub struct Move {
     pub number: u64,
     pub letter: u8,

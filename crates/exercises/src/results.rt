@@ -63,7 +63,7 @@ const NO_ORDER: u8 = b'Z';
 
 // What the bank has of a run's order: the key of its text, how many bytes, and whether the order's bytes are in the
 // book, or with the client.
-#[derive(Drop)]
+#[derive(Clone, Copy)]
 struct Holding {
     pub key: u8,
     pub length: u64,

@@ -1,2 +1,3 @@
 // Reading a frame: one reader over the tables.
+#![tactic(auto)]
 pub mod reader;

@@ -12,7 +12,7 @@ use frame_table::table::{FRAME_LIMIT, TAG_COUNT, is_reply_form, is_request_form,
 use octets::bytes::{leading, wide};
 
 // What a frame says, and where its data stand in it: from a place on to the end.
-#[derive(Drop)]
+#[derive(Clone, Copy)]
 pub struct Parsed {
     pub fields: Fields,
     pub from: usize,

@@ -13,7 +13,7 @@ use crate::table::{
 };
 
 // 16 bytes as two numbers: a transaction ID or a nonce.
-#[derive(Drop)]
+#[derive(Clone, Copy)]
 pub struct Bits128 {
     pub high: u64,
     pub low: u64,
@@ -21,7 +21,7 @@ pub struct Bits128 {
 
 // Which tags stand (bit t for tag t), and their numbers, 64 bits high and 64 low; 0 where a tag is absent, and for
 // the data.
-#[derive(Drop)]
+#[derive(Clone, Copy)]
 pub struct Fields {
     pub tags: u32,
     pub high: [u64; TAG_COUNT],

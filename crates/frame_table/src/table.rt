@@ -57,14 +57,14 @@ pub const UZHNN: u64 = 0x55_5A_48_4E_4E;
 pub const H003: u64 = 0x48_30_30_33;
 
 // The characters of a text.
-#[derive(Drop)]
+#[derive(Clone, Copy)]
 pub enum Characters {
     Digits,
     CapitalsOrDigits,
 }
 
 // What the content of a field can be: any bytes, a number from the least to the greatest, or a text.
-#[derive(Drop)]
+#[derive(Clone, Copy)]
 pub enum Values {
     Any,
     Range(u64, u64),
@@ -72,10 +72,10 @@ pub enum Values {
 }
 
 // A field's content length (0: one byte or more), and its values.
-#[derive(Drop)]
+#[derive(Clone, Copy)]
 struct Field(pub usize, pub Values);
 
-#[derive(Drop)]
+#[derive(Clone, Copy)]
 pub enum RequestForm {
     UploadOpening,
     DownloadOpening,
@@ -87,7 +87,7 @@ pub enum RequestForm {
 }
 
 // SegmentTaken is also the recovery point, ReceiptAnswered also the reply to a chosen opening: each has the same fields.
-#[derive(Drop)]
+#[derive(Clone, Copy)]
 pub enum ReplyForm {
     UploadOpened,
     DownloadOpened,
@@ -98,7 +98,7 @@ pub enum ReplyForm {
     Refusal,
 }
 
-#[derive(Drop)]
+#[derive(Clone, Copy)]
 pub enum Form {
     NoForm,
     Request(RequestForm),

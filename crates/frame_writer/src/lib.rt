@@ -1,2 +1,3 @@
 // Writing a frame: one writer over the tables.
+#![tactic(auto)]
 pub mod writer;

@@ -15,7 +15,7 @@ use frame_table::table::{
 use octets::bytes::{digits, put_field};
 
 // The length of the frame written, or document 01's number 1: nothing written.
-#[derive(Drop)]
+#[derive(Clone, Copy)]
 pub enum Written {
     Length(usize),
     Refused,

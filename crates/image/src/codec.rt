@@ -12,7 +12,7 @@ use crate::walk::{Cursor, Step, next, start};
 use octets::bytes::copy;
 
 // What a call answers: done; "number 1", a lent length is wrong; "number 9", out of form.
-#[derive(Drop)]
+#[derive(Clone, Copy)]
 pub enum Answer {
     Done,
     Lengths,

@@ -8,7 +8,7 @@ use bank_state::limits::STORE_BYTES;
 // A field: its head as a number of so many bytes (tag and length; for the form's number the content too), which is the
 // same in every image; how many records it has, how many parts a record has besides the first, and their
 // lengths as hexadecimal digits, the first part's last; or the size of its store; how many bytes stand behind the head.
-#[derive(Drop)]
+#[derive(Clone, Copy)]
 pub struct Row {
     pub width: usize,
     pub head: u64,
@@ -215,7 +215,7 @@ pub fn row_at(i: usize) -> Row
 
 // How many fields an image has and how many numbers a session; the sizes of a store and of the image; where the places'
 // store and the mailboxes' begin in the image.
-#[derive(Drop)]
+#[derive(Clone, Copy)]
 pub struct Sizes {
     pub fields: u64,
     pub numbers: usize,

@@ -6,7 +6,7 @@ use crate::table::row_at;
 
 // A place in the walk: the next field and how many are left; of the field at hand the store to come, how many records
 // are left and what each has; of the record at hand how many parts are left and their lengths.
-#[derive(Drop)]
+#[derive(Clone, Copy)]
 pub struct Cursor {
     pub field: usize,
     pub left: u64,
@@ -19,7 +19,7 @@ pub struct Cursor {
 }
 
 // What comes next: a head (its length and its number), a part or a store (its length), each with the place behind it.
-#[derive(Drop)]
+#[derive(Clone, Copy)]
 pub enum Step {
     Head(usize, u64, Cursor),
     Part(usize, Cursor),

@@ -9,7 +9,7 @@ use journal::event::Event;
 use journal::row::{held_row, replace_row};
 
 // What putting away answers: the length of the image; number 1; or number 9.
-#[derive(Drop)]
+#[derive(Clone, Copy)]
 pub enum Away {
     Length(usize),
     WrongLength,
@@ -17,7 +17,7 @@ pub enum Away {
 }
 
 // What taking up answers: done; number 1; or number 9.
-#[derive(Drop)]
+#[derive(Clone, Copy)]
 pub enum TakenUp {
     Done,
     WrongLength,

@@ -6,7 +6,7 @@ use bank_state::limits::{NONCE_COUNT, PLACE_COUNT};
 
 // Some records: where the first one's numbers begin, and how far one record is from the next; how many of a record's
 // numbers are taken and which, as hexadecimal digits, the first number's last; how many records.
-#[derive(Drop)]
+#[derive(Clone, Copy)]
 pub struct Group {
     pub at: usize,
     pub width: usize,

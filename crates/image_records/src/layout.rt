@@ -50,7 +50,7 @@ pub const COUNT_SIZE: usize = 7;
 pub const NUMBER_COUNT: usize = COUNTS + COUNT_SIZE;
 
 // A nonce's halves and the timestamp of its opening.
-#[derive(Drop)]
+#[derive(Clone, Copy)]
 pub struct NonceRecord {
     pub high: u64,
     pub low: u64,
@@ -58,7 +58,7 @@ pub struct NonceRecord {
 }
 
 // An open download; low is the running number of its opening.
-#[derive(Drop)]
+#[derive(Clone, Copy)]
 pub struct DownloadRecord {
     pub subscriber: u64,
     pub high: u64,
@@ -70,7 +70,7 @@ pub struct DownloadRecord {
 
 // A place: free (0), an open upload (1) or a booked order (2); low is the running number of its opening, order its order
 // number as a number, signers is a set as bits.
-#[derive(Drop)]
+#[derive(Clone, Copy)]
 pub struct PlaceRecord {
     pub state: u64,
     pub subscriber: u64,
@@ -86,7 +86,7 @@ pub struct PlaceRecord {
 }
 
 // An event of the journal; low is the running number of its order's opening.
-#[derive(Drop)]
+#[derive(Clone, Copy)]
 pub struct EventRecord {
     pub number: u64,
     pub clock: u64,
@@ -99,7 +99,7 @@ pub struct EventRecord {
 }
 
 // A place or an open download: free, open or booked, its subscriber and its running number.
-#[derive(Drop)]
+#[derive(Clone, Copy)]
 pub struct Slot {
     pub state: u64,
     pub subscriber: u64,

@@ -3,12 +3,8 @@ pub mod Bounds
 pub mod Events
 pub mod Rows
 pub mod Mixed
-pub mod Width
 pub mod Entering
 pub mod Laws
 pub mod Examples
 pub mod Lookup
 pub mod Copying
-pub mod Plain
-pub mod Rounds
-pub mod Apart

@@ -181,6 +181,7 @@ module _ (id : Bits128) where
 
   pub booked-found : (l : List Event) → Recorded Booked id l → lookup id l ≡ found.Booked
   unfolding lookup
+  booked-found [] b = elim b [ ]
   booked-found (e ∷ es) (here o k) = books id e (lookup id es) o k
   booked-found (e ∷ es) (there h) = keeps id e (lookup id es) (booked-found es h)
 
@@ -229,6 +230,7 @@ module _ (id : Bits128) where
 
   recorded-drop : (kind : Kind) (s : ℕ) (l : List Event) → Recorded kind id (drop s l) → Recorded kind id l
   recorded-drop kind zero l h = h
+  recorded-drop kind (suc s) [] h = elim h [ ]
   recorded-drop kind (suc s) (e ∷ es) h = there (recorded-drop kind s es h)
 
   recorded-newest : (kind : Kind) (l : List Event) → Recorded kind id (newest l) → Recorded kind id l

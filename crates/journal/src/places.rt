@@ -10,7 +10,7 @@ const EVENTS_LIMIT: u64 = 18446744073709551607;
 
 // The places that change: those from `first` on are given the record `by` places further on, and those from `start` on
 // the events, to the place before `end`.
-#[derive(Drop)]
+#[derive(Clone, Copy)]
 pub struct Places {
     pub by: usize,
     pub first: usize,

@@ -12,7 +12,7 @@ use crate::layout::{COUNT_AT, MESSAGE_BYTES, ROW_SIZE, STORE_BYTES, VALUE_AT};
 use crate::memory::{hold, is_line, release};
 
 // The line is made; number 1, for a lent length; or number 11, for seed 0.
-#[derive(Drop)]
+#[derive(Clone, Copy)]
 pub enum MakeAnswer {
     Made,
     WrongLength,
@@ -21,7 +21,7 @@ pub enum MakeAnswer {
 
 // What comes out: so many copies of the message, and after them the message held longest, of this length; or number 1,
 // for a lent length, a message over 1,024 bytes, or numbers that no call leaves.
-#[derive(Drop)]
+#[derive(Clone, Copy)]
 pub enum PutAnswer {
     Out(u64),
     OutAndHeld(u64, usize),

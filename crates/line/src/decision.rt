@@ -5,7 +5,7 @@ ghost use Rattle.line.specs.Line.{decision};
 use crate::layout::MOST_HELD;
 
 // The message is lost, is held, or comes out in so many copies.
-#[derive(Drop)]
+#[derive(Clone, Copy)]
 pub enum Decision {
     Lose,
     Hold,

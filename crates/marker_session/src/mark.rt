@@ -17,7 +17,7 @@ use octets::bytes::behind;
 const MAX_CALLS: u64 = u64::MAX;
 
 // Between two calls: the calls so far, the input bytes used, the output bytes written.
-#[derive(Drop)]
+#[derive(Clone, Copy)]
 pub struct Marked {
     pub calls: u64,
     pub used: usize,

@@ -22,7 +22,7 @@ const INPUT_BYTES: usize = HEAD_BYTES + 65535;
 const OUTPUT_BYTES: usize = INPUT_BYTES / HEAD_BYTES * LINE_ROOM;
 
 // Between two reads: the calls so far, the bytes held of a record cut short, the reads that may follow.
-#[derive(Drop)]
+#[derive(Clone, Copy)]
 struct Reading {
     pub calls: u64,
     pub held: usize,

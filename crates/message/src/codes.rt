@@ -2,7 +2,7 @@
 ghost use Rattle.std.specs.Prelude.{◌≡◌};
 ghost use Rattle.message.specs.Codes.{code_field};
 
-#[derive(Drop)]
+#[derive(Clone, Copy)]
 pub enum ReturnCode {
     Ok,
     DownloadPostprocessDone,

@@ -5,7 +5,7 @@ ghost use Rattle.message.specs.Editions.{request_edition, edition_of};
 use frame_table::fields::Fields;
 use frame_table::table::{Form, RequestForm};
 
-#[derive(Drop)]
+#[derive(Clone, Copy)]
 pub enum Edition {
     V24,
     V25,

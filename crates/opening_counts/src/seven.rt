@@ -5,7 +5,7 @@ ghost use Rattle.opening_counts.specs.Counts.{fits, can_grow};
 use bank_state::limits::PLACE_COUNT;
 
 // Open; booked; fetched, by 011000; skipped, by 011001; ended by another receipt; cancelled; dropped.
-#[derive(Drop)]
+#[derive(Clone, Copy)]
 pub struct Counts {
     pub pending: u64,
     pub booked: u64,

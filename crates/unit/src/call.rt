@@ -52,7 +52,7 @@ use unit_state::record::{
 use unit_state::state::{ROOMS_BYTES, Run};
 
 // A run after a call, and the call's answer.
-#[derive(Drop)]
+#[derive(Clone, Copy)]
 struct RunOut {
     pub run: Run,
     pub answer: Answer,

@@ -12,7 +12,7 @@ use opening_counts::seven::Counts;
 // image, the session is taken up, the bytes are in the image room, the value day, the line is made, what comes out of a
 // line (so many copies of the message put in, and behind them the held one of this length in the buffer), the seven
 // counts, or the number that the call was given. A record that is no call has none.
-#[derive(Drop)]
+#[derive(Clone, Copy)]
 pub enum Answer {
     Frame(usize),
     Put,

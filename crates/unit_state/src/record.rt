@@ -83,7 +83,7 @@ pub const UPLOAD_HEAD: usize = ORDER_AT + ORDER_BYTES + SIZE_BYTES;
 pub const RECORD_BYTES: usize = UPLOAD_HEAD + 65535;
 
 // What happens to a client run: it begins an upload or a download, a reply arrived, or no reply came.
-#[derive(Drop)]
+#[derive(Clone, Copy)]
 pub enum Event {
     Upload,
     Download,
@@ -94,7 +94,7 @@ pub enum Event {
 // What a record is: a call to the bank, a call to a client run, the journal handed to a run, the session put away or
 // taken up, bytes for the image room, the value day of a booking, a line made, a message put into a line, the counts
 // asked for, or no call.
-#[derive(Drop)]
+#[derive(Clone, Copy)]
 pub enum Kind {
     Frame,
     File,

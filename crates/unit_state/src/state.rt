@@ -13,7 +13,7 @@ pub const ROOMS_BYTES: usize = RUN_COUNT * FILE_BYTES;
 pub const BUFFER_BYTES: usize = MESSAGE_BYTES;
 
 // A client run, the nonce bytes that it keeps, and how many bytes its payload has.
-#[derive(Drop)]
+#[derive(Clone, Copy)]
 pub struct Run {
     pub client: Client,
     pub nonce: [u8; NONCE_BYTES],

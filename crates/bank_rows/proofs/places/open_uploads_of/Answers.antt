@@ -1,0 +1,36 @@
+-- Of the places passed, so many hold an open upload of the subscriber.
+use native.Mathlib.Omega.{arith}
+use borrow.Author.Rules.{rules}
+use Prim.Native.Nat.{◌-◌}
+use mathlib.Core.Path.{sym, ◌∙◌}
+use mathlib.Core.Bool.{◌&&◌}
+use lib.Dec.{eqb}
+use Rattle.bank_state.specs.Search.{is_open}
+use Rattle.bank_state.specs.declared.state.Place.{Place}
+use Rattle.bank_state.specs.Limits.{place_count}
+use Rattle.bank_state.specs.State.{no_place}
+use Rattle.bank_state.proofs.Loops.{Counted, counted_start, counted-one, counted_none, counted-end}
+use Rattle.bank_rows.specs.State.{bank_of}
+use Rattle.bank_rows.proofs.Reading.{length-places-of}
+use Rattle.bank_rows.proofs.places.open_uploads_of.Goals as goal
+
+pub loop-i-init : goal.loop-i-init
+loop-i-init c = counted_start _ _
+
+pub overflow_add-n : goal.overflow_add-n
+overflow_add-n c = omega (arith, c.loop-i.invariant.most)
+
+pub loop-i-preserved-then-is_open_of : goal.loop-i-preserved-then-is_open_of
+loop-i-preserved-then-is_open_of c =
+    let h = length-places-of c.args.rows.now in
+    counted-one _ _ no_place _ _ c.loop-i.invariant (omega arith) (sym c.is_open_of.ensures ∙ c.if-is_open_of.true)
+
+pub loop-i-preserved : goal.loop-i-preserved
+loop-i-preserved c =
+    let h = length-places-of c.args.rows.now in
+    counted_none _ _ no_place _ _ c.loop-i.invariant (omega arith) (sym c.is_open_of.ensures ∙ c.if-is_open_of.false)
+
+pub returns : goal.returns
+returns c =
+    let h = length-places-of c.args.rows.now in
+    counted-end _ _ no_place _ _ c.loop-i.invariant (omega arith)

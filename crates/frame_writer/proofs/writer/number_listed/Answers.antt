@@ -1,0 +1,36 @@
+-- `number_listed` meets its contract: the values of the tag say which test it is; a number in a range has no high half.
+-- Assumes nothing.
+use Prim.Native.Nat.{◌+◌, ◌*◌, ◌^◌}
+use mathlib.Core.Path.{◌≡◌, sym, ap, ◌∙◌}
+use native.Mathlib.Omega.{arith}
+use borrow.Author.Rules.{rules}
+use Rattle.octets.proofs.Numbers.{number-bytes_of}
+use Rattle.frame_table.specs.Table.{width, in_range}
+use Rattle.frame_table.proofs.Values.{width_narrow, range-narrow}
+use Rattle.frame_row.proofs.Contents.{listed-as}
+use Rattle.frame_writer.proofs.Numbers.{low-alone}
+use Rattle.frame_writer.proofs.writer.number_listed.Goals as goal
+
+pub number_spelled-requires : goal.number_spelled-requires
+number_spelled-requires c =
+    omega (arith, c.width.ensures, width_narrow c.args.tag c.requires.0 c.requires.1)
+
+pub returns-in-Any : goal.returns-in-Any
+returns-in-Any c =
+    let a = c.args in
+    sym (listed-as a.tag _ _ (sym c.values_of-values.ensures ∙ c.in-Any.is))
+
+pub returns-in-Range : goal.returns-in-Range
+returns-in-Range c =
+    let a = c.args in
+    let e = sym c.values_of-values.ensures ∙ c.in-Range.is in
+    let w = range-narrow a.tag _ _ c.requires.0 e in
+    let x : a.low ≡ a.high * 2 ^ 64 + a.low = low-alone a.high a.low (width a.tag) w.1 c.requires.2 in
+    let n = x ∙ sym (number-bytes_of (width a.tag) (a.high * 2 ^ 64 + a.low) c.requires.2) in
+    c.in_range.ensures ∙ ap (in_range _ _) n ∙ sym (listed-as a.tag _ _ e)
+
+pub returns-in-Text : goal.returns-in-Text
+returns-in-Text c =
+    let a = c.args in
+    let e = sym c.values_of-values.ensures ∙ c.in-Text.is in
+    c.number_spelled.ensures ∙ rw c.width.ensures (sym (listed-as a.tag _ _ e))

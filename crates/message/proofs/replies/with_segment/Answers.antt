@@ -1,0 +1,5 @@
+-- `with_segment` meets its contract: its calls' contracts, put together. Assumes nothing.
+use Rattle.message.proofs.replies.with_segment.Goals as goal
+
+pub returns : goal.returns
+returns c = rw (c.with-3.ensures, c.with-2.ensures, c.with.ensures)
