@@ -1,11 +1,12 @@
 // The unstarred cases of document 01 as they come out, and the return codes with their names.
+#![tactic(auto)]
+
 use bank::call::answer_frame;
 use bank_rows::layout::STATE_SIZE;
 use bank_state::limits::{ID_BYTES, REPLY_ROOM, STORE_BYTES};
 use frame_table::fields::{Bits128, Fields};
 use frame_table::table::FRAME_LIMIT;
 use frame_writer::writer::{Written, write};
-use libc::STDOUT_FILENO;
 use message::codes::{ReturnCode, code_field};
 use message::requests::{upload_opening, upload_transfer};
 use octets::bytes::front;
@@ -44,14 +45,14 @@ fn segment(s: u64) -> Fields {
 }
 
 // A line: what is sent, and the code that came.
-fn print_case(sent: &[u8], code: u64) {
-    io::write_all(STDOUT_FILENO, sent);
-    io::write_all(STDOUT_FILENO, &code_digits(code));
-    io::write_all(STDOUT_FILENO, b"\n");
+fn print_case(rt: &impl Print, sent: &[u8], code: u64) {
+    let _ = rt.write_all(sent);
+    let _ = rt.write_all(&code_digits(code));
+    let _ = rt.write_all(b"\n");
 }
 
 // 31 and 32 segments, and 256 and 257 data bytes.
-fn print_cases() {
+fn print_cases(rt: &impl Print) {
     let mut rows = [0u64; STATE_SIZE];
     let mut orders = [0u8; STORE_BYTES];
     let mut mailboxes = [0u8; STORE_BYTES];
@@ -63,7 +64,7 @@ fn print_cases() {
         &mut orders,
         &mut mailboxes,
     );
-    print_case(b"31 segments ", a);
+    print_case(rt, b"31 segments ", a);
     let b = ask(
         opening(32),
         &nothing,
@@ -71,7 +72,7 @@ fn print_cases() {
         &mut orders,
         &mut mailboxes,
     );
-    print_case(b"32 segments ", b);
+    print_case(rt, b"32 segments ", b);
     let c = ask(
         segment(1),
         &[7u8; 256],
@@ -79,7 +80,7 @@ fn print_cases() {
         &mut orders,
         &mut mailboxes,
     );
-    print_case(b"256 data bytes ", c);
+    print_case(rt, b"256 data bytes ", c);
     let d = ask(
         segment(2),
         &[7u8; 257],
@@ -87,83 +88,100 @@ fn print_cases() {
         &mut orders,
         &mut mailboxes,
     );
-    print_case(b"257 data bytes ", d);
+    print_case(rt, b"257 data bytes ", d);
 }
 
 // A line: the code's six digits, and its name in Annex 1.
-fn print_code(code: ReturnCode, name: &[u8]) {
-    io::write_all(STDOUT_FILENO, &code_digits(code_field(code)));
-    io::write_all(STDOUT_FILENO, b" ");
-    io::write_all(STDOUT_FILENO, name);
+fn print_code(rt: &impl Print, code: ReturnCode, name: &[u8]) {
+    let _ = rt.write_all(&code_digits(code_field(code)));
+    let _ = rt.write_all(b" ");
+    let _ = rt.write_all(name);
 }
 
 // The codes from 000000 to 011101.
-fn print_codes_01() {
-    print_code(ReturnCode::Ok, b"EBICS_OK\n");
+fn print_codes_01(rt: &impl Print) {
+    print_code(rt, ReturnCode::Ok, b"EBICS_OK\n");
     print_code(
+        rt,
         ReturnCode::DownloadPostprocessDone,
         b"EBICS_DOWNLOAD_POSTPROCESS_DONE\n",
     );
     print_code(
+        rt,
         ReturnCode::DownloadPostprocessSkipped,
         b"EBICS_DOWNLOAD_POSTPROCESS_SKIPPED\n",
     );
     print_code(
+        rt,
         ReturnCode::SegmentNumberUnderrun,
         b"EBICS_TX_SEGMENT_NUMBER_UNDERRUN\n",
     );
 }
 
 // The codes from 061002 to 061101.
-fn print_codes_06() {
-    print_code(ReturnCode::InvalidRequest, b"EBICS_INVALID_REQUEST\n");
-    print_code(ReturnCode::InternalError, b"EBICS_INTERNAL_ERROR\n");
-    print_code(ReturnCode::RecoverySync, b"EBICS_TX_RECOVERY_SYNC\n");
+fn print_codes_06(rt: &impl Print) {
+    print_code(rt, ReturnCode::InvalidRequest, b"EBICS_INVALID_REQUEST\n");
+    print_code(rt, ReturnCode::InternalError, b"EBICS_INTERNAL_ERROR\n");
+    print_code(rt, ReturnCode::RecoverySync, b"EBICS_TX_RECOVERY_SYNC\n");
 }
 
 // The codes from 090005 to 091010.
-fn print_codes_09() {
+fn print_codes_09(rt: &impl Print) {
     print_code(
+        rt,
         ReturnCode::NoDownloadDataAvailable,
         b"EBICS_NO_DOWNLOAD_DATA_AVAILABLE\n",
     );
-    print_code(ReturnCode::UserUnknown, b"EBICS_USER_UNKNOWN\n");
-    print_code(ReturnCode::InvalidOrderType, b"EBICS_INVALID_ORDER_TYPE\n");
+    print_code(rt, ReturnCode::UserUnknown, b"EBICS_USER_UNKNOWN\n");
     print_code(
+        rt,
+        ReturnCode::InvalidOrderType,
+        b"EBICS_INVALID_ORDER_TYPE\n",
+    );
+    print_code(
+        rt,
         ReturnCode::SegmentSizeExceeded,
         b"EBICS_SEGMENT_SIZE_EXCEEDED\n",
     );
-    print_code(ReturnCode::InvalidXml, b"EBICS_INVALID_XML\n");
+    print_code(rt, ReturnCode::InvalidXml, b"EBICS_INVALID_XML\n");
 }
 
 // The codes from 091101 on.
-fn print_codes_091() {
-    print_code(ReturnCode::UnknownTransaction, b"EBICS_TX_UNKNOWN_TXID\n");
-    print_code(ReturnCode::TransactionAbort, b"EBICS_TX_ABORT\n");
-    print_code(ReturnCode::MessageReplay, b"EBICS_TX_MESSAGE_REPLAY\n");
+fn print_codes_091(rt: &impl Print) {
     print_code(
+        rt,
+        ReturnCode::UnknownTransaction,
+        b"EBICS_TX_UNKNOWN_TXID\n",
+    );
+    print_code(rt, ReturnCode::TransactionAbort, b"EBICS_TX_ABORT\n");
+    print_code(rt, ReturnCode::MessageReplay, b"EBICS_TX_MESSAGE_REPLAY\n");
+    print_code(
+        rt,
         ReturnCode::SegmentNumberExceeded,
         b"EBICS_TX_SEGMENT_NUMBER_EXCEEDED\n",
     );
-    print_code(ReturnCode::OrderIdUnknown, b"EBICS_ORDERID_UNKNOWN\n");
+    print_code(rt, ReturnCode::OrderIdUnknown, b"EBICS_ORDERID_UNKNOWN\n");
     print_code(
+        rt,
         ReturnCode::OrderIdAlreadyExists,
         b"EBICS_ORDERID_ALREADY_EXISTS\n",
     );
     print_code(
+        rt,
         ReturnCode::MaxSegmentsExceeded,
         b"EBICS_MAX_SEGMENTS_EXCEEDED\n",
     );
     print_code(
+        rt,
         ReturnCode::MaxTransactionsExceeded,
         b"EBICS_MAX_TRANSACTIONS_EXCEEDED\n",
     );
 }
 
-fn main() {
-    print_cases();
-    print_codes_01();
-    print_codes_06();
-    print_codes_09();
-    print_codes_091();
+fn main(rt: HostRuntime) {
+    print_cases(&rt);
+    print_codes_01(&rt);
+    print_codes_06(&rt);
+    print_codes_09(&rt);
+    print_codes_091(&rt);
 }

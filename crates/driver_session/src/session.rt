@@ -14,8 +14,8 @@ use bank_state::limits::STORE_BYTES;
 use driver_print::call_line::line;
 use driver_print::counts_table::counts_table;
 use driver_print::tables::{TABLE_ROOM, Table, table_of};
-use libc::{STDIN_FILENO, STDOUT_FILENO};
 use octets::bytes::front;
+use std::io::Read;
 use unit::call::call;
 use unit_rows::events::ROW_SIZE;
 use unit_rows::lines::{LINES_SIZE, STORES_BYTES};
@@ -35,29 +35,28 @@ pub struct SessionEnd {
 }
 
 // Reads the bytes from a place up to an end, and says whether all came.
-fn read_part(input: &mut [u8], from: usize, end: usize) -> bool {
+fn read_part(rt: &impl Input, input: &mut [u8], from: usize, end: usize) -> bool {
     if input.len() < end {
         return false;
     }
     if end < from {
         return false;
     }
-    let n = io::read_full(STDIN_FILENO, &mut input[from..end]);
-    n == end - from
+    rt.reader().read_exact(&mut input[from..end]).is_ok()
 }
 
 // Reads a record into the input, and gives its length; 0 where it is cut short or its letter is none.
-fn read_record(input: &mut [u8]) -> usize {
-    if !read_part(input, 0, 1) {
+fn read_record(rt: &impl Input, input: &mut [u8]) -> usize {
+    if !read_part(rt, input, 0, 1) {
         return 0;
     }
     let kind = kind_of(first(input));
     let head = head_of(kind);
-    if !read_part(input, 1, head) {
+    if !read_part(rt, input, 1, head) {
         return 0;
     }
     let end = head + size_of(kind, input);
-    if !read_part(input, head, end) {
+    if !read_part(rt, input, head, end) {
         return 0;
     }
     end
@@ -73,6 +72,7 @@ fn first(input: &[u8]) -> u8 {
 
 // One record: its call, the call's line, and whether the input may go on. A message for a line not made ends it, too.
 fn step(
+    rt: &(impl Input + Print),
     runs: &mut [u64; RUNS_SIZE],
     nonces: &mut [u8; NONCES_SIZE],
     row: &mut [u64; ROW_SIZE],
@@ -99,7 +99,7 @@ fn step(
         payloads.new files.new buffer.new room.new
         (lines_of lines.new stores.new))) }
 {
-    let size = read_record(input);
+    let size = read_record(rt, input);
     if !is_call(call_of(front(input, size))) {
         return false;
     }
@@ -122,12 +122,13 @@ fn step(
         return false;
     }
     let k = line(n, answer, buffer, front(room, lent_length(input)), output);
-    io::write_all(STDOUT_FILENO, front(output, k))
+    rt.write_all(front(output, k)).is_ok()
 }
 
 // The calls of all records. Nothing says that an input ends, so the calls are counted up to a number that no run
 // reaches.
 fn read_all(
+    rt: &(impl Input + Print),
     runs: &mut [u64; RUNS_SIZE],
     nonces: &mut [u8; NONCES_SIZE],
     row: &mut [u64; ROW_SIZE],
@@ -158,7 +159,7 @@ fn read_all(
     while calls < u64::MAX && more {
         calls += 1;
         more = step(
-            runs, nonces, row, calls, input, output, rows, orders, mailboxes, payloads, files,
+            rt, runs, nonces, row, calls, input, output, rows, orders, mailboxes, payloads, files,
             buffer, room, lines, stores,
         );
     }
@@ -166,6 +167,7 @@ fn read_all(
 
 // Writes a closing table.
 fn close_table(
+    rt: &impl Print,
     t: Table,
     u: UnitState,
     output: &mut [u8],
@@ -178,7 +180,7 @@ fn close_table(
 {
     let bank = &rows[..STATE_SIZE];
     let n = table_of(t, u, bank, orders, mailboxes, files, output);
-    io::write_all(STDOUT_FILENO, front(output, n));
+    let _ = rt.write_all(front(output, n));
 }
 
 // The table of the counts into the output, and its length; numbers that get number 1 have none.
@@ -190,13 +192,14 @@ fn counts_into(answer: CountAnswer, output: &mut [u8]) -> usize {
 }
 
 // Writes the counts that the session's call gives.
-fn close_counts(output: &mut [u8], rows: &[u64]) {
+fn close_counts(rt: &impl Print, output: &mut [u8], rows: &[u64]) {
     let n = counts_into(count_openings(rows), output);
-    io::write_all(STDOUT_FILENO, front(output, n));
+    let _ = rt.write_all(front(output, n));
 }
 
 // Writes the closing tables.
 fn close(
+    rt: &impl Print,
     u: UnitState,
     output: &mut [u8],
     rows: &[u64],
@@ -206,16 +209,34 @@ fn close(
 )
     requires { length rows.now ≡ session_size }
 {
-    close_table(Table::Book, u, output, rows, orders, mailboxes, files);
-    close_table(Table::Mailboxes, u, output, rows, orders, mailboxes, files);
-    close_table(Table::Words, u, output, rows, orders, mailboxes, files);
-    close_table(Table::Files, u, output, rows, orders, mailboxes, files);
-    close_table(Table::Journal, u, output, rows, orders, mailboxes, files);
-    close_counts(output, rows);
+    close_table(rt, Table::Book, u, output, rows, orders, mailboxes, files);
+    close_table(
+        rt,
+        Table::Mailboxes,
+        u,
+        output,
+        rows,
+        orders,
+        mailboxes,
+        files,
+    );
+    close_table(rt, Table::Words, u, output, rows, orders, mailboxes, files);
+    close_table(rt, Table::Files, u, output, rows, orders, mailboxes, files);
+    close_table(
+        rt,
+        Table::Journal,
+        u,
+        output,
+        rows,
+        orders,
+        mailboxes,
+        files,
+    );
+    close_counts(rt, output, rows);
 }
 
 // Makes the calls of all records, prints, and gives what the session leaves.
-pub fn session() -> SessionEnd
+pub fn session(rt: &(impl Input + Print)) -> SessionEnd
     ensures { Session result.unit result.rows }
 {
     let mut input = [0u8; RECORD_BYTES];
@@ -233,6 +254,7 @@ pub fn session() -> SessionEnd
     let mut nonces = [0u8; NONCES_SIZE];
     let mut row = [0u64; ROW_SIZE];
     read_all(
+        rt,
         &mut runs,
         &mut nonces,
         &mut row,
@@ -249,6 +271,6 @@ pub fn session() -> SessionEnd
         &mut stores,
     );
     let unit = unit_of(&runs, &nonces, &row);
-    close(unit, &mut output, &rows, &orders, &mailboxes, &files);
+    close(rt, unit, &mut output, &rows, &orders, &mailboxes, &files);
     SessionEnd { unit, rows }
 }

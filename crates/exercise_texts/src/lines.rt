@@ -117,28 +117,28 @@ fn has_message(letter: u8) -> bool {
 }
 
 // What the message of a move says, and whether it repeats one.
-fn say_message(letter: u8, form: Form, repeated: bool, v: [u64; VALUES]) {
-    say(frame_key(form, v[8]), v);
+fn say_message(rt: &impl Print, letter: u8, form: Form, repeated: bool, v: [u64; VALUES]) {
+    say(rt, frame_key(form, v[8]), v);
     if is_reply(letter) {
-        say(b'C', v);
-        say(name_key(v[8]), v);
+        say(rt, b'C', v);
+        say(rt, name_key(v[8]), v);
     }
-    say(b'E', v);
+    say(rt, b'E', v);
     if repeated {
-        say(b'A', v);
+        say(rt, b'A', v);
     }
 }
 
 // What the call answered, but for a message, whose own line follows.
-fn say_answer(answer: Answer, v: [u64; VALUES]) {
+fn say_answer(rt: &impl Print, answer: Answer, v: [u64; VALUES]) {
     match answer {
-        Answer::Ignored => say(b'i', v),
-        Answer::Unchanged => say(b'q', v),
+        Answer::Ignored => say(rt, b'i', v),
+        Answer::Unchanged => say(rt, b'q', v),
         Answer::Closed(word, order) => {
-            say(b'w', v);
-            say_closing(word, order);
+            say(rt, b'w', v);
+            say_closing(rt, word, order);
         }
-        Answer::Number(n) => say(b'n', [n; VALUES]),
+        Answer::Number(n) => say(rt, b'n', [n; VALUES]),
         _ => (),
     }
 }
@@ -196,15 +196,15 @@ fn values_of(m: Move, q: Fields) -> [u64; VALUES] {
 }
 
 // Prints the line of a move that made this answer.
-pub fn say_line(m: Move, frame: &[u8], answer: Answer) {
+pub fn say_line(rt: &impl Print, m: Move, frame: &[u8], answer: Answer) {
     let q = fields_of(m.letter, frame);
     let v = values_of(m, q);
-    say(m.letter, v);
+    say(rt, m.letter, v);
     if has_message(m.letter) {
-        say_message(m.letter, q.form(), m.repeated, v);
+        say_message(rt, m.letter, q.form(), m.repeated, v);
     }
-    say(m.fate, v);
-    say(m.hour, v);
-    say_answer(answer, v);
-    say_end();
+    say(rt, m.fate, v);
+    say(rt, m.hour, v);
+    say_answer(rt, answer, v);
+    say_end(rt);
 }

@@ -1,7 +1,6 @@
 // Texts on standard output, in which a digit stands for a value.
 use client_run::run::Word;
 use journal::event::OrderName;
-use libc::STDOUT_FILENO;
 use octets::bytes::front;
 use print::closing::{CLOSING_ROOM, put_closing};
 use print::text::{ORDER_CHARACTERS, code_digits, put_order_number};
@@ -12,22 +11,22 @@ use print::text::{ORDER_CHARACTERS, code_digits, put_order_number};
 pub const VALUES: usize = 10;
 
 // Prints an order number, given as the number of field 0E.
-fn say_order_number(x: u64) {
+fn say_order_number(rt: &impl Print, x: u64) {
     let mut text = [0u8; ORDER_CHARACTERS];
     put_order_number(&mut text, 0, x);
-    io::write_all(STDOUT_FILENO, &text);
+    let _ = rt.write_all(&text);
 }
 
 // Prints value k.
-fn say_value(k: usize, x: u64) {
+fn say_value(rt: &impl Print, k: usize, x: u64) {
     if k < 7 {
-        io::print_decimal(STDOUT_FILENO, x);
+        let _ = rt.print(x);
     } else if k == 7 {
-        say_order_number(x);
+        say_order_number(rt, x);
     } else if k == 8 {
-        io::write_all(STDOUT_FILENO, &code_digits(x));
+        let _ = rt.write_all(&code_digits(x));
     } else if x == 1 {
-        io::write_all(STDOUT_FILENO, b" (last)");
+        let _ = rt.write_all(b" (last)");
     }
 }
 
@@ -40,17 +39,17 @@ fn value_of(b: u8) -> usize {
 }
 
 // Prints a byte of a text, or the value that it stands for.
-fn say_byte(b: u8, v: [u64; VALUES]) {
+fn say_byte(rt: &impl Print, b: u8, v: [u64; VALUES]) {
     let k = value_of(b);
     if k < VALUES {
-        say_value(k, v[k]);
+        say_value(rt, k, v[k]);
     } else {
-        io::write_all(STDOUT_FILENO, &[b]);
+        let _ = rt.write_all(&[b]);
     }
 }
 
 // Prints the text of a table that has this key: a line is the key of a text, and the text.
-fn say_keyed(table: &[u8], key: u8, v: [u64; VALUES]) {
+fn say_keyed(rt: &impl Print, table: &[u8], key: u8, v: [u64; VALUES]) {
     let mut current = 0;
     let mut i = 0;
     while i < table.len() {
@@ -61,7 +60,7 @@ fn say_keyed(table: &[u8], key: u8, v: [u64; VALUES]) {
         } else if b == b'\n' {
             current = 0;
         } else if current == key {
-            say_byte(b, v);
+            say_byte(rt, b, v);
         }
     }
 }
@@ -72,8 +71,9 @@ fn say_keyed(table: &[u8], key: u8, v: [u64; VALUES]) {
 // what became of a message, H for the hour; i, q, w and n for what the call answered; u and d for a run's row in
 // exercise C, o for a run that has not ended, B, Z and X for what the bank has, V and W for whether the closing word is
 // true, v for an order and its day, # for where every opening ended, = for how many they are.
-pub fn say(key: u8, v: [u64; VALUES]) {
+pub fn say(rt: &impl Print, key: u8, v: [u64; VALUES]) {
     say_keyed(
+        rt,
         b"\
             M0 host -> bank: file for mailbox 2, 3 bytes\n\
             U0 client 1: upload begun\n\
@@ -144,13 +144,13 @@ pub fn say(key: u8, v: [u64; VALUES]) {
 }
 
 // Prints a closing word, with what names the order where it is lodged.
-pub fn say_closing(word: Word, order: OrderName) {
+pub fn say_closing(rt: &impl Print, word: Word, order: OrderName) {
     let mut text = [0u8; CLOSING_ROOM];
     let n = put_closing(&mut text, 0, word, order);
-    io::write_all(STDOUT_FILENO, front(&text, n));
+    let _ = rt.write_all(front(&text, n));
 }
 
 // Ends a line.
-pub fn say_end() {
-    io::write_all(STDOUT_FILENO, b"\n");
+pub fn say_end(rt: &impl Print) {
+    let _ = rt.write_all(b"\n");
 }

@@ -1,5 +1,7 @@
 // The exercises A to D on standard output, and B over lines: a script and a seed played on the unit, each move with its
 // line.
+#![tactic(auto)]
+
 mod results;
 
 use bank_rows::layout::STATE_SIZE;
@@ -11,7 +13,6 @@ use exercise_texts::record::{MAIL_BYTES, RECORD_BYTES, keep, message_of, put_mov
 use exercise_texts::script::{
     FIRST_OF_B, MOVES, MOVES_A, MOVES_B, MOVES_C, MOVES_DAY, Move, SEED, move_at,
 };
-use libc::STDOUT_FILENO;
 use line::layout::{ROW_SIZE as LINE_SIZE, STORE_BYTES as LINE_BYTES};
 use results::{say_book, say_counts, say_days, say_handed, say_results};
 use unit::call::call;
@@ -45,6 +46,7 @@ fn bank_numbers(rows: &[u64; SESSION_SIZE]) -> [u64; STATE_SIZE] {
 // those of the runs that were handed the journal, the book, and the day on which each order is executed, and after the
 // last move the book again, with the signers, and where every opening ended.
 fn say_before(
+    rt: &impl Print,
     i: u8,
     runs: &[u64; RUNS_SIZE],
     nonces: &[u8; NONCES_SIZE],
@@ -54,30 +56,23 @@ fn say_before(
     files: &[u8; ROOMS_BYTES],
 ) {
     if i == 0 {
-        io::write_all(
-            STDOUT_FILENO,
+        let _ = rt.write_all(
             b"exercise A: an upload of edition 2.4 and a statement, no message lost\n",
         );
     } else if i == MOVES_A {
-        io::write_all(
-            STDOUT_FILENO,
-            b"exercise B: the same while messages are lost, repeated and late\n",
-        );
+        let _ = rt.write_all(b"exercise B: the same while messages are lost, repeated and late\n");
     } else if i == MOVES_B {
-        io::write_all(
-            STDOUT_FILENO,
-            b"exercise C: each order's closing word beside what the bank has\n",
-        );
-        say_results(0, runs, nonces, &bank_numbers(rows), orders, files);
+        let _ = rt.write_all(b"exercise C: each order's closing word beside what the bank has\n");
+        say_results(rt, 0, runs, nonces, &bank_numbers(rows), orders, files);
     } else if i == MOVES_C {
         let numbers = bank_numbers(rows);
-        say_handed(runs, nonces, &numbers, orders, files);
-        say_book(&numbers);
-        say_days(row);
-        io::write_all(STDOUT_FILENO, b"exercise D: a booked order is signed\n");
+        say_handed(rt, runs, nonces, &numbers, orders, files);
+        say_book(rt, &numbers);
+        say_days(rt, row);
+        let _ = rt.write_all(b"exercise D: a booked order is signed\n");
     } else if i == MOVES {
-        say_book(&bank_numbers(rows));
-        say_counts(rows);
+        say_book(rt, &bank_numbers(rows));
+        say_counts(rt, rows);
     }
 }
 
@@ -116,6 +111,7 @@ fn unit_call(
 
 // Plays a move on the unit, its message among the mail, and prints its line; what the unit answered is given back.
 fn play_move(
+    rt: &impl Print,
     runs: &mut [u64; RUNS_SIZE],
     nonces: &mut [u8; NONCES_SIZE],
     row: &mut [u64; ROW_SIZE],
@@ -144,13 +140,14 @@ fn play_move(
         &mut buffer,
         room,
     );
-    say_line(m, message_of(mail, m.letter, m.fate), answer);
+    say_line(rt, m, message_of(mail, m.letter, m.fate), answer);
     keep(mail, m.fate, &record, answer, &buffer);
     answer
 }
 
 // Plays the moves of the script from one on, up to another; a signing is written before it is sent.
 fn play(
+    rt: &impl Print,
     runs: &mut [u64; RUNS_SIZE],
     nonces: &mut [u8; NONCES_SIZE],
     row: &mut [u64; ROW_SIZE],
@@ -166,18 +163,19 @@ fn play(
 ) {
     let mut i = first;
     while i < end {
-        say_before(i, runs, nonces, row, rows, orders, files);
+        say_before(rt, i, runs, nonces, row, rows, orders, files);
         let m = move_at(i);
         i += 1;
         put_signing(mail, m);
         play_move(
-            runs, nonces, row, m, mail, rows, orders, mailboxes, payloads, files, room,
+            rt, runs, nonces, row, m, mail, rows, orders, mailboxes, payloads, files, room,
         );
     }
 }
 
 // The moves of a day, which has a bank's memory of its own: the second day takes up what the first put away.
 fn day(
+    rt: &impl Print,
     runs: &mut [u64; RUNS_SIZE],
     nonces: &mut [u8; NONCES_SIZE],
     row: &mut [u64; ROW_SIZE],
@@ -192,6 +190,7 @@ fn day(
     let mut orders = [0u8; STORE_BYTES];
     let mut mailboxes = [0u8; STORE_BYTES];
     play(
+        rt,
         runs,
         nonces,
         row,
@@ -205,11 +204,12 @@ fn day(
         files,
         room,
     );
-    say_before(end, runs, nonces, row, &rows, &orders, files);
+    say_before(rt, end, runs, nonces, row, &rows, &orders, files);
 }
 
 // Plays exercise B over lines, to the closing words of its client runs.
 fn play_over_lines(
+    rt: &impl Print,
     runs: &mut [u64; RUNS_SIZE],
     nonces: &mut [u8; NONCES_SIZE],
     row: &mut [u64; ROW_SIZE],
@@ -229,6 +229,7 @@ fn play_over_lines(
     let mut i: u16 = 0;
     while i < LINE_MOVES && !is_over(c) {
         let answer = play_move(
+            rt,
             runs,
             nonces,
             row,
@@ -247,7 +248,7 @@ fn play_over_lines(
 }
 
 // Exercise B over lines from the seed, on a fresh unit, and each order's closing word beside what the bank has.
-fn over_lines() {
+fn over_lines(rt: &impl Print) {
     let mut mail = [0u8; MAIL_BYTES];
     let mut payloads = [0u8; ROOMS_BYTES];
     let mut files = [0u8; ROOMS_BYTES];
@@ -262,13 +263,11 @@ fn over_lines() {
     let mut back = [0u64; LINE_SIZE];
     let mut there_store = [0u8; LINE_BYTES];
     let mut back_store = [0u8; LINE_BYTES];
-    io::write_all(STDOUT_FILENO, b"exercise B over lines from seed ");
-    io::print_decimal(STDOUT_FILENO, SEED as u64);
-    io::write_all(
-        STDOUT_FILENO,
-        b": each message goes over a line of its client\n",
-    );
+    let _ = rt.write_all(b"exercise B over lines from seed ");
+    let _ = rt.print(SEED as u64);
+    let _ = rt.write_all(b": each message goes over a line of its client\n");
     play_over_lines(
+        rt,
         &mut runs,
         &mut nonces,
         &mut row,
@@ -286,6 +285,7 @@ fn over_lines() {
     );
     let numbers = bank_numbers(&rows);
     say_results(
+        rt,
         FIRST_OF_B as usize - 1,
         &runs,
         &nonces,
@@ -293,11 +293,11 @@ fn over_lines() {
         &orders,
         &files,
     );
-    say_book(&numbers);
-    say_counts(&rows);
+    say_book(rt, &numbers);
+    say_counts(rt, &rows);
 }
 
-fn main() {
+fn main(rt: HostRuntime) {
     let mut mail = [0u8; MAIL_BYTES];
     let mut payloads = [0u8; ROOMS_BYTES];
     let mut files = [0u8; ROOMS_BYTES];
@@ -306,6 +306,7 @@ fn main() {
     let mut nonces = [0u8; NONCES_SIZE];
     let mut row = [0u64; ROW_SIZE];
     day(
+        &rt,
         &mut runs,
         &mut nonces,
         &mut row,
@@ -317,6 +318,7 @@ fn main() {
         &mut room,
     );
     day(
+        &rt,
         &mut runs,
         &mut nonces,
         &mut row,
@@ -327,5 +329,5 @@ fn main() {
         &mut files,
         &mut room,
     );
-    over_lines();
+    over_lines(&rt);
 }

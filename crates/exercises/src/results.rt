@@ -15,7 +15,6 @@ use exercise_texts::record::{content_of, example_text};
 use exercise_texts::say::{VALUES, say, say_closing, say_end};
 use exercise_texts::script::RUN_COUNT;
 use journal::event::{Event, Kind, OrderName, RECORD_COUNT};
-use libc::STDOUT_FILENO;
 use message::order_numbers::order_number_of;
 use octets::bytes::front;
 use opening_counts::seven::Counts;
@@ -126,35 +125,35 @@ fn is_true(w: Word, h: Holding) -> bool {
 }
 
 // The closing word, and whether it is true; a run that has not ended has none.
-fn say_word(stage: Stage, order: OrderName, h: Holding, v: [u64; VALUES]) -> bool {
+fn say_word(rt: &impl Print, stage: Stage, order: OrderName, h: Holding, v: [u64; VALUES]) -> bool {
     match stage {
         Stage::Ended(w) => {
-            say_closing(w, order);
+            say_closing(rt, w, order);
             is_true(w, h)
         }
         _ => {
-            say(b'o', v);
+            say(rt, b'o', v);
             true
         }
     }
 }
 
 // The row of a run from what the bank has.
-fn say_row(c: ClientRun, h: Holding, v: [u64; VALUES]) {
+fn say_row(rt: &impl Print, c: ClientRun, h: Holding, v: [u64; VALUES]) {
     let direction = c.direction;
     match direction {
-        Direction::Upload => say(b'u', v),
-        Direction::Download => say(b'd', v),
+        Direction::Upload => say(rt, b'u', v),
+        Direction::Download => say(rt, b'd', v),
     }
     let stage = c.stage;
-    let holds = say_word(stage, order_name(c), h, v);
-    say(h.key, v);
+    let holds = say_word(rt, stage, order_name(c), h, v);
+    say(rt, h.key, v);
     if holds {
-        say(b'V', v);
+        say(rt, b'V', v);
     } else {
-        say(b'W', v);
+        say(rt, b'W', v);
     }
-    say_end();
+    say_end(rt);
 }
 
 // What the bank has of the order of client run i, from 0 on.
@@ -179,7 +178,14 @@ fn bank_has(
 }
 
 // The row of client run i, from 0 on.
-fn say_run(c: ClientRun, i: usize, rows: &[u64; STATE_SIZE], orders: &[u8], files: &[u8]) {
+fn say_run(
+    rt: &impl Print,
+    c: ClientRun,
+    i: usize,
+    rows: &[u64; STATE_SIZE],
+    orders: &[u8],
+    files: &[u8],
+) {
     let text = example_text();
     let h = bank_has(
         c,
@@ -194,11 +200,12 @@ fn say_run(c: ClientRun, i: usize, rows: &[u64; STATE_SIZE], orders: &[u8], file
     v[2] = c.subscriber;
     v[3] = h.length;
     v[7] = c.number;
-    say_row(c, h, v);
+    say_row(rt, c, h, v);
 }
 
 // The rows of the client runs from one on, counted from 0.
 pub(crate) fn say_results(
+    rt: &impl Print,
     first: usize,
     runs: &[u64; RUNS_SIZE],
     nonces: &[u8; NONCES_SIZE],
@@ -210,13 +217,14 @@ pub(crate) fn say_results(
     while i < RUN_COUNT {
         let r = run_at(runs, nonces, i);
         let c = r.client.run;
-        say_run(c, i, rows, orders, files);
+        say_run(rt, c, i, rows, orders, files);
         i += 1;
     }
 }
 
 // The rows of the runs that were handed the journal: client runs 4 and 6.
 pub(crate) fn say_handed(
+    rt: &impl Print,
     runs: &[u64; RUNS_SIZE],
     nonces: &[u8; NONCES_SIZE],
     rows: &[u64; STATE_SIZE],
@@ -227,57 +235,57 @@ pub(crate) fn say_handed(
     let sixth = run_at(runs, nonces, 5);
     let c = fourth.client;
     let d = sixth.client;
-    say_run(c.run, 3, rows, orders, files);
-    say_run(d.run, 5, rows, orders, files);
+    say_run(rt, c.run, 3, rows, orders, files);
+    say_run(rt, d.run, 5, rows, orders, files);
 }
 
 // The bank's book.
-pub(crate) fn say_book(rows: &[u64; STATE_SIZE]) {
+pub(crate) fn say_book(rt: &impl Print, rows: &[u64; STATE_SIZE]) {
     let mut output = [0u8; BOOK_ROOM];
     let n = book(rows, &mut output);
-    io::write_all(STDOUT_FILENO, front(&output, n));
+    let _ = rt.write_all(front(&output, n));
 }
 
 // Prints the value day of a booking time, or its number.
-fn say_day(time: u64) {
+fn say_day(rt: &impl Print, time: u64) {
     let answer = value_day(time);
     match answer {
         ValueDay::Day(date) => {
             let mut text = [0u8; DAY_ROOM];
             put_day(&mut text, 0, date);
-            io::write_all(STDOUT_FILENO, &text);
+            let _ = rt.write_all(&text);
         }
         ValueDay::TooLate => {
-            io::write_all(STDOUT_FILENO, b"number 10");
+            let _ = rt.write_all(b"number 10");
         }
     }
 }
 
 // The row of a booked order, by its booking event, whose clock is the booking time.
-fn say_booking(e: Event) {
+fn say_booking(rt: &impl Print, e: Event) {
     let mut v = [0u64; VALUES];
     v[2] = e.subscriber;
     v[7] = order_number_of(e.order);
-    say(b'v', v);
-    say_day(e.clock);
-    say_end();
+    say(rt, b'v', v);
+    say_day(rt, e.clock);
+    say_end(rt);
 }
 
 // The row of an event, where it is a booking.
-fn say_event(e: Event) {
+fn say_event(rt: &impl Print, e: Event) {
     let kind = e.kind;
     match kind {
-        Kind::Booked => say_booking(e),
+        Kind::Booked => say_booking(rt, e),
         _ => {}
     }
 }
 
 // The day on which each booked order is executed.
-pub(crate) fn say_days(row: &[u64; ROW_SIZE]) {
+pub(crate) fn say_days(rt: &impl Print, row: &[u64; ROW_SIZE]) {
     let mut i = 0;
     while i < RECORD_COUNT {
         let e = record_at(row, i);
-        say_event(e);
+        say_event(rt, e);
         i += 1;
     }
 }
@@ -291,10 +299,11 @@ fn plus(a: u64, b: u64) -> u64 {
 }
 
 // The seven counts, and their sum.
-fn say_seven(c: Counts) {
+fn say_seven(rt: &impl Print, c: Counts) {
     let ended = plus(plus(c.fetched, c.skipped), plus(c.ended, c.cancelled));
     let sum = plus(plus(c.pending, c.booked), plus(ended, c.dropped));
     say(
+        rt,
         b'#',
         [
             c.pending,
@@ -309,15 +318,15 @@ fn say_seven(c: Counts) {
             0,
         ],
     );
-    say(b'=', [sum; VALUES]);
-    say_end();
+    say(rt, b'=', [sum; VALUES]);
+    say_end(rt);
 }
 
 // Where every opening of a session ended, as the session's call says.
-pub(crate) fn say_counts(rows: &[u64; SESSION_SIZE]) {
+pub(crate) fn say_counts(rt: &impl Print, rows: &[u64; SESSION_SIZE]) {
     let answer = count_openings(rows);
     match answer {
-        CountAnswer::Counted(c) => say_seven(c),
+        CountAnswer::Counted(c) => say_seven(rt, c),
         CountAnswer::WrongLength => {}
     }
 }

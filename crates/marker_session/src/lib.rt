@@ -1,4 +1,6 @@
 // The marker: recorded calls in, the marker's print out.
+#![tactic(auto)]
+
 pub mod line;
 pub mod mark;
 pub mod record;

@@ -11,9 +11,9 @@ use crate::mark::mark;
 use crate::record::HEAD_BYTES;
 use bank_rows::layout::STATE_SIZE;
 use bank_state::limits::{REPLY_ROOM, STORE_BYTES};
-use libc::{STDIN_FILENO, STDOUT_FILENO};
 use octets::bytes::front;
 use print::book::book;
+use std::io::Read;
 
 // The input held: a record of the longest frame.
 const INPUT_BYTES: usize = HEAD_BYTES + 65535;
@@ -53,25 +53,27 @@ fn keep(input: &mut [u8], from: usize, end: usize) -> usize
 }
 
 // Reads into the input behind the bytes held, and counts what came: 0 at the end, and where the input is full.
-fn read_in(input: &mut [u8], held: usize) -> usize
+fn read_in(rt: &impl Input, input: &mut [u8], held: usize) -> usize
     ensures { (result ≤ length input.old - held) × (take held input.new ≡ take held input.old) }
 {
     if input.len() <= held {
         return 0;
     }
-    let got = libc::read(STDIN_FILENO, &mut input[held..]);
-    io::count(got, &input[held..])
+    match rt.reader().read(&mut input[held..]) {
+        Ok(n) => n,
+        Err(_) => 0,
+    }
 }
 
 // Writes the lines of a read, and counts down the reads that may follow: none where nothing came or could be written.
-fn write_lines(output: &[u8], written: usize, came: usize, reads: u64) -> u64
+fn write_lines(rt: &impl Print, output: &[u8], written: usize, came: usize, reads: u64) -> u64
     requires { 0 < reads }
     ensures { result < reads }
 {
     if came == 0 {
         return 0;
     }
-    if io::write_all(STDOUT_FILENO, front(output, written)) {
+    if rt.write_all(front(output, written)).is_ok() {
         return reads - 1;
     }
     0
@@ -79,6 +81,7 @@ fn write_lines(output: &[u8], written: usize, came: usize, reads: u64) -> u64
 
 // One read: the records that are whole then are marked, and the rest is kept for the next.
 fn read_on(
+    rt: &(impl Input + Print),
     t: Reading,
     input: &mut [u8],
     output: &mut [u8],
@@ -99,7 +102,7 @@ fn read_on(
         buffer.new }
 {
     let held = t.held;
-    let n = read_in(input, held);
+    let n = read_in(rt, input, held);
     let end = held + n;
     let m = mark(
         t.calls,
@@ -110,7 +113,7 @@ fn read_on(
         mailboxes,
         buffer,
     );
-    let reads = write_lines(output, m.written, n, t.reads);
+    let reads = write_lines(rt, output, m.written, n, t.reads);
     let left = keep(input, m.used, end);
     Reading {
         calls: m.calls,
@@ -122,6 +125,7 @@ fn read_on(
 // Reads on to the end of the input. Nothing says that an input ends, so the reads are counted down from a number that
 // no run uses up.
 fn read_all(
+    rt: &(impl Input + Print),
     input: &mut [u8],
     output: &mut [u8],
     rows: &mut [u64],
@@ -144,27 +148,28 @@ fn read_all(
         reads: u64::MAX,
     };
     while 0 < t.reads {
-        t = read_on(t, input, output, rows, orders, mailboxes, buffer);
+        t = read_on(rt, t, input, output, rows, orders, mailboxes, buffer);
     }
     t
 }
 
 // Prints the header.
-fn print_header(output: &mut [u8]) {
+fn print_header(rt: &impl Print, output: &mut [u8]) {
     let n = header(output);
-    io::write_all(STDOUT_FILENO, front(output, n));
+    let _ = rt.write_all(front(output, n));
 }
 
 // Prints the bank's book.
-fn print_book(rows: &[u64], output: &mut [u8])
+fn print_book(rt: &impl Print, rows: &[u64], output: &mut [u8])
     requires { length rows.now ≡ state_size }
 {
     let n = book(rows, output);
-    io::write_all(STDOUT_FILENO, front(output, n));
+    let _ = rt.write_all(front(output, n));
 }
 
 // Reads all records, and prints, in lent memory.
 fn print_all(
+    rt: &(impl Input + Print),
     input: &mut [u8],
     output: &mut [u8],
     rows: &mut [u64],
@@ -181,14 +186,14 @@ fn print_all(
         (lent rows.new orders.new mailboxes.new)
         buffer.new }
 {
-    print_header(output);
-    let t = read_all(input, output, rows, orders, mailboxes, buffer);
-    print_book(rows, output);
+    print_header(rt, output);
+    let t = read_all(rt, input, output, rows, orders, mailboxes, buffer);
+    print_book(rt, rows, output);
     t
 }
 
 // Reads all records, and prints, in memory of its own.
-pub fn session() -> SessionEnd
+pub fn session(rt: &(impl Input + Print)) -> SessionEnd
     ensures { SessionOf result.rows result.calls }
 {
     let mut input = [0u8; INPUT_BYTES];
@@ -198,6 +203,7 @@ pub fn session() -> SessionEnd
     let mut mailboxes = [0u8; STORE_BYTES];
     let mut buffer = [0u8; REPLY_ROOM];
     let t = print_all(
+        rt,
         &mut input,
         &mut output,
         &mut rows,

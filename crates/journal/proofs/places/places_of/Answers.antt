@@ -1,5 +1,4 @@
 -- The records in use and the events entered have room, or the records move up.
-use borrow.Author.Rules.{rules}
 use native.Mathlib.Omega.{arith}
 use Rattle.octets.proofs.Tests.{tests}
 use Rattle.journal.specs.Places.{places_for, places_of}

@@ -1,20 +1,16 @@
 -- The two tests of `copied_count`, one after the other.
-use Prim.Native.Nat.{ℕ}
-use mathlib.Core.Path.{◌≡◌, refl, sym}
-use mathlib.Core.Bool.{Bool, true, false, cond, not}
-use lib.Dec.{eqb}
-use Rattle.octets.proofs.Tests.{never, tests}
-use Rattle.journal.specs.Events.{record_count}
+use Rattle.octets.proofs.Tests.{tests}
 use Rattle.journal.specs.Row.{copied_count}
 use Rattle.journal.proofs.row.copied_count.Goals as goal
 
-not_taken : (t : Bool) (n : ℕ) → not t ≡ true → 0 ≡ copied_count t n
+pub returns-then-not-taken : goal.returns-then-not-taken
 unfolding copied_count
-not_taken true n h = never h
-not_taken false n h = refl
+returns-then-not-taken c = search tests
 
-taken : (t : Bool) (n k : ℕ) → not t ≡ false → k ≡ cond (eqb n record_count) record_count 0 → k ≡ copied_count t n
+pub returns-then-records-eq-RECORD_COUNT : goal.returns-then-records-eq-RECORD_COUNT
 unfolding copied_count
-taken true n k h e = e
-taken false n k h e = never (sym h)
+returns-then-records-eq-RECORD_COUNT c = rw c.if-not-taken.false (search tests)
 
+pub returns-else-records-eq-RECORD_COUNT : goal.returns-else-records-eq-RECORD_COUNT
+unfolding copied_count
+returns-else-records-eq-RECORD_COUNT c = rw c.if-not-taken.false (search tests)

@@ -1,59 +1,189 @@
-use Rattle.std.proofs.Common.{rules, ◌≡◌, ℕ, ◌+◌, ◌-◌, ◌*◌, ◌<◌, ◌≤◌, length, ◌/◌, ◌%◌, Bool, true, false, nat_eq, nat_lt, List, [], ◌∷◌, ◌++◌, slice_index_or, slice_set, bit_and, bit_or, Fits, w8, w32, w64, Bor, MutBor}
-use Rattle.journal.specs.Row.{row_after, is_of, or_ended, with_kind, with_record, lookup, empty_row, copied_count, held_row, replaced}
+-- The first i records are those that the row is to hold, and the others as they were (`mixed`), which `Entering` keeps from
+-- place to place. Assumes nothing.
+use Prim.Native.Nat.{ℕ, ◌+◌, ◌-◌, ◌<◌, ◌≤◌, ◌^◌}
+use mathlib.Core.Path.{◌≡◌, sym, ap, ◌∙◌}
+use mathlib.Core.List.{List}
+use native.Mathlib.Numerals.{add-one}
+use native.Mathlib.Omega.{arith}
+use lib.ListN.{length, get_or, set}
+use mir.Val.{Val}
+use denote.Laws.{Is}
+use denote.Struct.Laws as LL
+use Rattle.journal.specs.contracts.event.Batch as B
+use Rattle.journal.proofs.event.Batch.TheLaws as B'
+use Rattle.journal.specs.declared.event.Event.{Event}
+use Rattle.journal.specs.declared.event.Batch.{Batch}
+use Rattle.journal.specs.declared.places.Places.{Places}
+use Rattle.journal.specs.Events.{record_count, max_entries, no_event, event_at}
+use Rattle.journal.specs.Row.{row_after}
+use Rattle.journal.specs.Places.{places_of}
+use Rattle.journal.proofs.Mixed.{mixed, mixed-after, mixed-next}
+use Rattle.journal.proofs.Entering.{Entering, entering}
 use Rattle.journal.proofs.row.enter.Goals as goal
 
--- src/row.rt:18:5
+-- a batch has nine entries
+nine_entries : (b : Batch) (vs : List Val) → Is B.the_row b vs → length b.entries ≡ max_entries
+nine_entries b vs is = (LL.owed B.the_type B'.the_laws b vs is).1.0.1.0.1
+
+-- nine is that a batch has nine entries
+module _ (n clock : ℕ) (b : Batch) (xs : List Event) (p : Places) (nine : length b.entries ≡ max_entries)
+    (e : p ≡ places_of (length xs) n b.count) where
+  abbrev zs : List Event
+  zs = row_after n clock b xs
+
+  rightly : Entering n clock b p xs zs
+  rightly = rw e (entering n clock b xs nine)
+
+  -- a place that is given a record, and one that is given an event, is one of the row
+  moves : (i : ℕ) → p.first ≤ i → i < p.start → (length xs ≡ record_count) × (i + p.by < record_count)
+  moves i h l = rightly.moves i h l
+
+  takes : (i : ℕ) → p.start ≤ i → i < p.end → (length xs ≡ record_count) × (i < record_count)
+  takes i h l = let t = rightly.takes i h l in (t.0, t.1)
+
+  asks : (i : ℕ) → p.start ≤ i → i < p.end → (n + max_entries < 2 ^ 64) × (i - p.start < max_entries)
+  asks i h l = let t = rightly.takes i h l in (t.2, t.3)
+
+  -- one place more, given v
+  next : (i : ℕ) (row : List Event) (v : Event) → row ≡ mixed i zs xs → v ≡ get_or zs i no_event
+      → set row i v ≡ mixed (i + 1) zs xs
+  next i row v r w =
+      ap (λ (l : List Event). set l i v) r
+      ∙ ap (set (mixed i zs xs) i) w
+      ∙ mixed-next i zs xs no_event rightly.same
+      ∙ ap (λ (k : ℕ). mixed k zs xs) (sym (add-one i))
+
+  moved : (i : ℕ) (row : List Event) → p.first ≤ i → i < p.start → row ≡ mixed i zs xs
+      → set row i (get_or row (i + p.by) no_event) ≡ mixed (i + 1) zs xs
+  moved i row h l r =
+      next i row (get_or row (i + p.by) no_event) r
+      (ap (λ (k : List Event). get_or k (i + p.by) no_event) r
+      ∙ mixed-after i (i + p.by) zs xs no_event rightly.same (omega arith)
+      ∙ rightly.moved i h l)
+
+  taken : (i : ℕ) (row : List Event) (v : Event) → p.start ≤ i → i < p.end → row ≡ mixed i zs xs
+      → v ≡ event_at n clock b (i - p.start)
+      → set row i v ≡ mixed (i + 1) zs xs
+  taken i row v h l r w = next i row v r (w ∙ rightly.taken i h l)
+
+  ended : (i : ℕ) (row : List Event) → i ≡ p.end → row ≡ mixed i zs xs → row ≡ zs
+  ended i row h r = r ∙ ap (λ (k : ℕ). mixed k zs xs) h ∙ rightly.ends
+
 pub loop-i-init : goal.loop-i-init
-loop-i-init c = ?
+loop-i-init c =
+    let a = c.args in
+    let p = c.places_of-places.result in
+    let k = nine_entries a.batch _ c.well_formed.1.1.1.0 in
+    let right = rightly a.events a.clock a.batch a.row.now p k c.places_of-places.ensures in
+    (omega arith, right.in_order_lem.0, sym right.begins)
 
--- src/row.rt:19:22
 pub overflow_add-row : goal.overflow_add-row
-overflow_add-row c = ?
+overflow_add-row c =
+    let a = c.args in
+    let p = c.places_of-places.result in
+    let k = nine_entries a.batch _ c.well_formed.1.1.1.0 in
+    record {
+      fits =
+          omega
+          (arith, moves a.events a.clock a.batch a.row.now p k c.places_of-places.ensures c.loop-i.i c.loop-i.invariant.0 c.loop-i-test.true);
+    }
 
--- src/row.rt:19:18
 pub offset_bounds-row-i : goal.offset_bounds-row-i
-offset_bounds-row-i c = ?
+offset_bounds-row-i c =
+    let a = c.args in
+    let p = c.places_of-places.result in
+    let k = nine_entries a.batch _ c.well_formed.1.1.1.0 in
+    record {
+      fits =
+          omega
+          (arith, moves a.events a.clock a.batch a.row.now p k c.places_of-places.ensures c.loop-i.i c.loop-i.invariant.0 c.loop-i-test.true);
+    }
 
--- src/row.rt:19:18
 pub slice_copy_out-row : goal.slice_copy_out-row
-slice_copy_out-row c = ?
+slice_copy_out-row c =
+    let a = c.args in
+    let p = c.places_of-places.result in
+    let k = nine_entries a.batch _ c.well_formed.1.1.1.0 in
+    omega (arith, moves a.events a.clock a.batch a.row.now p k c.places_of-places.ensures c.loop-i.i c.loop-i.invariant.0 c.loop-i-test.true)
 
--- src/row.rt:19:9
 pub offset_bounds-row-i-in-loop-i : goal.offset_bounds-row-i-in-loop-i
-offset_bounds-row-i-in-loop-i c = ?
+offset_bounds-row-i-in-loop-i c =
+    let a = c.args in
+    let p = c.places_of-places.result in
+    let k = nine_entries a.batch _ c.well_formed.1.1.1.0 in
+    record {
+      fits =
+          omega
+          (arith, moves a.events a.clock a.batch a.row.now p k c.places_of-places.ensures c.loop-i.i c.loop-i.invariant.0 c.loop-i-test.true);
+    }
 
--- src/row.rt:19:9
 pub bounds-row-i : goal.bounds-row-i
-bounds-row-i c = ?
+bounds-row-i c =
+    let a = c.args in
+    let p = c.places_of-places.result in
+    let k = nine_entries a.batch _ c.well_formed.1.1.1.0 in
+    omega (arith, moves a.events a.clock a.batch a.row.now p k c.places_of-places.ensures c.loop-i.i c.loop-i.invariant.0 c.loop-i-test.true)
 
--- src/row.rt:18:5
 pub loop-i-preserved : goal.loop-i-preserved
-loop-i-preserved c = ?
+loop-i-preserved c =
+    let a = c.args in
+    let p = c.places_of-places.result in
+    let l = c.loop-i in
+    let k = nine_entries a.batch _ c.well_formed.1.1.1.0 in (
+      omega arith,
+      omega arith,
+      moved a.events a.clock a.batch a.row.now p k c.places_of-places.ensures l.i l.row l.invariant.0 c.loop-i-test.true l.invariant.2,
+    )
 
--- src/row.rt:22:5
 pub loop-i-2-init : goal.loop-i-2-init
-loop-i-2-init c = ?
+loop-i-2-init c =
+    let a = c.args in
+    let p = c.places_of-places.result in
+    let k = nine_entries a.batch _ c.well_formed.1.1.1.0 in
+    let right = rightly a.events a.clock a.batch a.row.now p k c.places_of-places.ensures in
+    (omega arith, omega (arith, right.in_order_lem), c.loop-i.invariant.2)
 
--- src/row.rt:23:49
-pub overflow_sub-i : goal.overflow_sub-i
-overflow_sub-i c = ?
-
--- src/row.rt:23:18
 pub event_at-requires : goal.event_at-requires
-event_at-requires c = ?
+event_at-requires c =
+    let a = c.args in
+    let p = c.places_of-places.result in
+    let l = c.loop-i-2 in
+    let k = nine_entries a.batch _ c.well_formed.1.1.1.0 in
+    asks a.events a.clock a.batch a.row.now p k c.places_of-places.ensures l.i l.invariant.0 c.loop-i-2-test.true
 
--- src/row.rt:23:9
 pub offset_bounds-row-i-in-loop-i-2 : goal.offset_bounds-row-i-in-loop-i-2
-offset_bounds-row-i-in-loop-i-2 c = ?
+offset_bounds-row-i-in-loop-i-2 c =
+    let a = c.args in
+    let p = c.places_of-places.result in
+    let k = nine_entries a.batch _ c.well_formed.1.1.1.0 in
+    record {
+      fits =
+          omega
+          (arith, takes a.events a.clock a.batch a.row.now p k c.places_of-places.ensures c.loop-i-2.i c.loop-i-2.invariant.0 c.loop-i-2-test.true);
+    }
 
--- src/row.rt:23:9
 pub bounds-row-i-in-loop-i-2 : goal.bounds-row-i-in-loop-i-2
-bounds-row-i-in-loop-i-2 c = ?
+bounds-row-i-in-loop-i-2 c =
+    let a = c.args in
+    let p = c.places_of-places.result in
+    let k = nine_entries a.batch _ c.well_formed.1.1.1.0 in
+    omega (arith, takes a.events a.clock a.batch a.row.now p k c.places_of-places.ensures c.loop-i-2.i c.loop-i-2.invariant.0 c.loop-i-2-test.true)
 
--- src/row.rt:22:5
 pub loop-i-2-preserved : goal.loop-i-2-preserved
-loop-i-2-preserved c = ?
+loop-i-2-preserved c =
+    let a = c.args in
+    let p = c.places_of-places.result in
+    let l = c.loop-i-2 in
+    let k = nine_entries a.batch _ c.well_formed.1.1.1.0 in (
+      omega arith,
+      omega arith,
+      taken a.events a.clock a.batch a.row.now p k c.places_of-places.ensures l.i l.row c.event_at.result l.invariant.0 c.loop-i-2-test.true l.invariant.2 c.event_at.ensures,
+    )
 
--- src/row.rt:13:1
 pub returns : goal.returns
-returns c = ?
+returns c =
+    let a = c.args in
+    let p = c.places_of-places.result in
+    let l = c.loop-i-2 in
+    let k = nine_entries a.batch _ c.well_formed.1.1.1.0 in
+    ended a.events a.clock a.batch a.row.now p k c.places_of-places.ensures l.i l.row (omega arith) l.invariant.2

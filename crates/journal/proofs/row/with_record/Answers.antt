@@ -1,5 +1,4 @@
 -- The record's order, then its kind.
-use borrow.Author.Rules.{rules}
 use Rattle.journal.specs.Row.{with_record}
 use Rattle.journal.proofs.row.with_record.Goals as goal
 

@@ -1,0 +1,6 @@
+-- Only an upload has a series. Assumes nothing.
+use borrow.Author.Rules.{rules}
+use Rattle.bank_openings.proofs.judgement.series_ended.Goals as goal
+
+pub returns-in-Upload : goal.returns-in-Upload
+returns-in-Upload c = rw c.in-Upload.is c.numbering_ended.ensures

@@ -1,0 +1,6 @@
+-- The open ones less, and one count more.
+use borrow.Author.Rules.{rules}
+use Rattle.opening_counts.proofs.moves.with_dropped.Goals as goal
+
+pub returns : goal.returns
+returns c = rw c.less.ensures
