@@ -7,11 +7,11 @@ import sys
 from pathlib import Path
 
 ROOT = Path(__file__).resolve().parent.parent
-WORD = re.compile(r"[^\W\d](?:[\w′·]|[-](?=\w))*")
+WORD = re.compile(r"[^\W\d](?:[\w']|[-](?=\w))*")
 QUALIFIED = re.compile(r"(%s)(::|\.)(%s)" % (WORD.pattern, WORD.pattern))
 # Words of commands, of the kit and of other papers; endings of files.
 KNOWN = set("bash rt check ci dev doc version run git clone target bin kit txt md py NAME README papers scope tools "
-            "rattle-kit-5b-plain put_ list1245 list1343 bank1238 client1215 session807 damaged807 EBICS_POSTPROCESS_DONE".split())
+            "rattle-kit-13f put_ list1245 list1343 bank1238 client1215 session807 damaged807 EBICS_POSTPROCESS_DONE".split())
 ENDINGS = {"rt", "antt", "edit", "md", "txt", "py"}
 
 
@@ -20,12 +20,21 @@ def pages():
     yield from (p for p in sorted((ROOT / "docs").glob("*.md")) if p.name != "CHECK-TIMES.md")
 
 
+def written(top):
+    """The files and folders under crates/ but what rt makes (out/)."""
+    for path in sorted(top.iterdir()):
+        if path.name != "out":
+            yield path
+            if path.is_dir() and not path.is_symlink():
+                yield from written(path)
+
+
 class Tree:
     """The names of the tree: of all its files, by file, and by the type that a file declares."""
 
     def __init__(self):
         self.names, self.by_stem, self.by_type, self.edits = set(KNOWN), {}, {}, set()
-        for path in (ROOT / "crates").rglob("*"):
+        for path in written(ROOT / "crates"):
             self.names.update(WORD.findall(path.name))
             if path.suffix == ".edit":
                 self.edits.add(f"{path.parent.parent.name}/{path.stem}")
@@ -33,7 +42,7 @@ class Tree:
                 text = path.read_text()
                 words = set(WORD.findall(text))
                 self.names |= words
-                for stem in {path.stem, *path.relative_to(ROOT / "crates").parts[:-1], *re.findall(r" as (\w+)$", text, re.M)}:
+                for stem in {path.stem, *path.relative_to(ROOT / "crates").parts[:-1], *re.findall(r" as (\w+);?$", text, re.M)}:
                     self.by_stem.setdefault(stem, set()).update(words)
                 for kind in re.findall(r"^(?:pub )?(?:record|data|struct|enum|impl) (\w+)", text, re.M):
                     self.by_type.setdefault(kind, set()).update(words)

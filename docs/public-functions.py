@@ -5,26 +5,38 @@ import sys
 from pathlib import Path
 
 CRATE = Path(__file__).resolve().parent.parent / "crates"
+FUNCTION = re.compile(r"^impl (\w+)|^\}|^( *)pub fn (\w+)(.*?)(?:\n\2\{\n| \{\n)", re.S | re.M)
+CLAUSE = re.compile(r"\b(requires|ensures)\b[^{]*\{")
+
+
+def closed(text, start):
+    """The text from start to the brace that closes it."""
+    depth = 1
+    for at in range(start, len(text)):
+        depth += {"{": 1, "}": -1}.get(text[at], 0)
+        if not depth:
+            return text[start:at]
+    return text[start:]
 
 
 def cited(text, names):
-    """The names of definitions in the text, in order, each once."""
-    words = re.findall(r"[^\s(){}⌜⌝,;]+", text)
-    return list(dict.fromkeys(w.strip(".") for w in words if w.strip(".") in names))
+    """The names of definitions in the text, in order, each once; what stands behind a dot is a part of a value."""
+    return list(dict.fromkeys(w for w in re.findall(r"(?<![^\s(){},;])[^\s(){},;.]+", text) if w in names))
 
 
 def functions(source):
     """(name, requires, ensures) of each public function; a method has its type's name in front."""
     found, owner = [], ""
-    for m in re.finditer(r"^impl (\w+)|^\}|^( *)pub fn (\w+)(.*?)(?:\n\2\{\n| \{\n)", source, re.S | re.M):
+    for m in FUNCTION.finditer(source):
         if m.group(1):
             owner = m.group(1) + "::"
         elif m.group(3) is None:
             owner = ""
         else:
-            clauses = m.group(4)
-            ensures = " ".join(re.findall(r"ensures \{(.*?)⌝ \}", clauses, re.S))
-            found.append((owner + m.group(3), "requires {" in clauses, ensures))
+            clauses = {"requires": "", "ensures": ""}
+            for clause in CLAUSE.finditer(m.group(4)):
+                clauses[clause.group(1)] += closed(m.group(4), clause.end())
+            found.append((owner + m.group(3), bool(clauses["requires"]), clauses["ensures"]))
     return found
 
 
@@ -33,8 +45,8 @@ def rows():
         entries = []
         for path in sorted((crate / "src").glob("*.rt")):
             source = path.read_text()
-            imports = re.findall(r"ghost use Rattle·[^{;]*\.\{([^}]*)\}", source)
-            names = {n.strip() for group in imports for n in group.split(",")} | {"replicate", "take", "drop"}
+            imports = re.findall(r"ghost use Rattle\.(\w+)\.specs\.[^{;]*\{([^}]*)\}", source)
+            names = {n.strip() for of, group in imports if (CRATE / of).is_dir() for n in group.split(",")} | {"replicate", "take", "drop"}
             for name, asks, ensures in functions(source):
                 names_cited = ", ".join(f"`{n}`" for n in cited(ensures, names)) or ("its arguments" if "≡" in ensures else "none")
                 entries.append(f"`{path.stem}::{name}`{'*' if asks else ''}: {names_cited}")

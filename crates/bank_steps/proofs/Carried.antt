@@ -3,10 +3,9 @@ use Prim.Native.Nat.{ℕ, ◌<◌, ◌≤◌}
 use mathlib.Core.Bool.{Bool, false}
 use mathlib.Core.List.{List, [], ◌∷◌}
 use mathlib.Core.Path.{◌≡◌, refl, sym, ap, ◌∙◌}
+use Rattle.std.proofs.Common.{◌≢◌}
 use native.Mathlib.Omega.{arith}
 use borrow.Author.Tests.{lt-ltb, le-ltb, lt-leb, le-leb}
-use types.Run.{OneOf, miss}
-use denote.Enum.Declared.{tag_of}
 use Rattle.frame_table.specs.declared.fields.Bits128.{Bits128}
 use Rattle.frame_table.specs.declared.fields.Fields.{Fields}
 use Rattle.frame_table.specs.Names.{subscriber}
@@ -56,23 +55,17 @@ of_none (verdict.Of t x) w q d a s = never (sym a)
 of_none (verdict.Signed n added) w q d a s = never (sym s)
 
 -- the verdicts that are of no transaction, and those that sign nothing
-abbrev unacted_keys : List ℕ
-unacted_keys = 0 ∷ 1 ∷ 3 ∷ []
-
-pub unacted : (v : Verdict) → OneOf unacted_keys (tag_of the_type v) → is_acted v ≡ false
+pub unacted : (v : Verdict) → ((t : Bits128) (a : Action) → v ≢ verdict.Of t a) → is_acted v ≡ false
 unacted verdict.Unreadable k = refl
 unacted (verdict.Refused c) k = refl
-unacted (verdict.Of t a) k = absurd (miss unacted_keys 2 tt k)
+unacted (verdict.Of t a) k = absurd (k t a refl)
 unacted (verdict.Signed n added) k = refl
 
-abbrev unsigned_keys : List ℕ
-unsigned_keys = 0 ∷ 1 ∷ 2 ∷ []
-
-pub unsigned : (v : Verdict) → OneOf unsigned_keys (tag_of the_type v) → is_signed v ≡ false
+pub unsigned : (v : Verdict) → ((n : SignedOrder) (added : Bool) → v ≢ verdict.Signed n added) → is_signed v ≡ false
 unsigned verdict.Unreadable k = refl
 unsigned (verdict.Refused c) k = refl
 unsigned (verdict.Of t a) k = refl
-unsigned (verdict.Signed n added) k = absurd (miss unsigned_keys 3 tt k)
+unsigned (verdict.Signed n added) k = absurd (k n added refl)
 
 -- ---- an opening of a transaction
 
@@ -173,18 +166,15 @@ download-acts-at j w r q d e =
     ap (λ (k : ℕ). on_download (judge_download r x n q) k w q) e ∙ sym (download-acts x.transaction w q d r x n)
 
 -- the actions that keep a download open, and an opening's
-abbrev staying_keys : List ℕ
-staying_keys = 0 ∷ 1 ∷ 2 ∷ 3 ∷ []
-
-pub stays : (a : DownloadAction) (j : ℕ) (w : BankState) (q : Fields) → OneOf staying_keys (tag_of actions.the_type a)
-    → staying a j w ≡ on_download a j w q
-stays (down.Opened n) j w q k = refl
-stays (down.Delivered n) j w q k = refl
-stays (down.SentAgain n) j w q k = refl
-stays (down.Point d) j w q k = refl
-stays down.Cancelled j w q k = absurd (miss staying_keys 4 tt k)
-stays down.Confirmed j w q k = absurd (miss staying_keys 5 tt k)
-stays down.Declined j w q k = absurd (miss staying_keys 6 tt k)
+pub stays : (a : DownloadAction) (j : ℕ) (w : BankState) (q : Fields) → a ≢ down.Cancelled → a ≢ down.Confirmed
+    → a ≢ down.Declined → staying a j w ≡ on_download a j w q
+stays (down.Opened n) j w q k l m = refl
+stays (down.Delivered n) j w q k l m = refl
+stays (down.SentAgain n) j w q k l m = refl
+stays (down.Point d) j w q k l m = refl
+stays down.Cancelled j w q k l m = absurd (k refl)
+stays down.Confirmed j w q k l m = absurd (l refl)
+stays down.Declined j w q k l m = absurd (m refl)
 
 -- ---- where a transaction is found, its verdict
 

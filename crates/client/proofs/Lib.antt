@@ -2,4 +2,3 @@
 pub mod Issues
 pub mod Late
 pub mod Journal
-pub mod Lent

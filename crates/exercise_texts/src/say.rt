@@ -114,9 +114,9 @@ pub fn say(rt: &impl Print, key: u8, v: [u64; VALUES]) {
             LEBICS_TX_MESSAGE_REPLAY\n\
             IEBICS_ORDERID_UNKNOWN\n\
             8EBICS_TX_ABORT\n\
-            m_ebics_max_transactions_exceeded\n\
-            y_ebics_no_download_data_available\n\
-            z_ebics_internal_error\n\
+            mEBICS_MAX_TRANSACTIONS_EXCEEDED\n\
+            yEBICS_NO_DOWNLOAD_DATA_AVAILABLE\n\
+            zEBICS_INTERNAL_ERROR\n\
             x, lost\n\
             l, late\n\
             r, held\n\

@@ -1,0 +1,31 @@
+-- The place is where the search finds the upload; where it finds none the definition looks behind the last place.
+use borrow.Author.Rules.{rules}
+use mathlib.Core.Path.{◌≡◌, sym, ap, ◌∙◌}
+use Prim.Native.Nat.{ℕ}
+use native.Mathlib.Omega.{arith}
+use lib.ListN.{get_or-eq_default}
+use Rattle.bank_state.specs.declared.state.Place.{Place}
+use Rattle.bank_state.specs.State.{place_at, no_place}
+use Rattle.bank_rows.specs.State.{bank_of}
+use Rattle.bank_rows.proofs.Reading.{length-places-of}
+use Rattle.bank_verdicts.specs.Judgement.{upload_at}
+use Rattle.bank_events.proofs.actions.named_order.Goals as goal
+
+pub returns-then-i-ge-PLACE_COUNT : goal.returns-then-i-ge-PLACE_COUNT
+returns-then-i-ge-PLACE_COUNT c =
+    let found : let a = c.args in
+    c.find_upload-i.result ≡ upload_at (bank_of a.rows.now) a.q = c.find_upload-i.ensures ∙ rw (c.transaction-id.ensures, c.subscriber.ensures) in
+    let a = c.args in
+    let b = bank_of a.rows.now in
+    let h = found in
+    sym (ap (λ (p : Place). p.number)
+    (get_or-eq_default b.places no_place (omega (arith, h, c.if-i-ge-PLACE_COUNT.true, length-places-of a.rows.now))))
+
+pub returns : goal.returns
+returns c =
+    let found : let a = c.args in
+    c.find_upload-i.result ≡ upload_at (bank_of a.rows.now) a.q = c.find_upload-i.ensures ∙ rw (c.transaction-id.ensures, c.subscriber.ensures) in
+    let a = c.args in
+    let b = bank_of a.rows.now in
+    ap (λ (p : Place). p.number) c.place_at-p.ensures
+    ∙ ap (λ (i : ℕ). (place_at b i).number) (found)

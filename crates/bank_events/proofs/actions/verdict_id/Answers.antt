@@ -1,0 +1,9 @@
+-- The transaction that the verdict names, or none.
+use borrow.Author.Rules.{rules}
+use Rattle.bank_events.proofs.actions.verdict_id.Goals as goal
+
+pub returns-in-Unreadable : goal.returns-in-Unreadable
+returns-in-Unreadable c = rw c.in-Unreadable.is
+
+pub returns-in-Refused : goal.returns-in-Refused
+returns-in-Refused c = rw c.in-Refused.is

@@ -1,0 +1,6 @@
+-- By the verdict's action, where it has one; a signing has the number itself.
+use borrow.Author.Rules.{rules}
+use Rattle.bank_events.proofs.actions.verdict_order.Goals as goal
+
+pub returns-in-Of : goal.returns-in-Of
+returns-in-Of c = rw c.in-Of.is c.order_of.ensures

@@ -1,0 +1,32 @@
+-- The ruling comes first: a call that is given a number returns at once, and an admitted one finds the buffers right.
+-- Assumes nothing.
+use mathlib.Core.Logic.{inr}
+use mathlib.Core.Path.{sym, ◌∙◌}
+use Rattle.client.specs.Calls.{no_reply_call}
+use Rattle.client_run.specs.Run.{lent_of}
+use Rattle.client_rules.proofs.Accepted.{admitted}
+use borrow.Author.Rules.{rules}
+use Rattle.client.proofs.calls.Client.no_reply.Goals as goal
+
+pub carry_out-requires : goal.carry_out-requires
+carry_out-requires c =
+    let a = c.args in
+    let known = admitted a.self.run (lent_of a.time a.nonce a.payload.now a.file.now a.request.now)
+    (sym c.run_ruling-ruling.ensures ∙ c.in-Accept.is) in
+    (inr c.on_no_reply-decision.ensures, known.0, known.1)
+
+pub returns-in-Refuse : goal.returns-in-Refuse
+unfolding no_reply_call
+returns-in-Refuse c =
+    rw (← c.run_ruling-ruling.ensures, c.in-Refuse.is, c.refused.ensures)
+
+pub returns-in-Accept : goal.returns-in-Accept
+unfolding no_reply_call
+returns-in-Accept c =
+    rw (
+      ← c.none-r.ensures,
+      ← c.no_data.ensures,
+      ← c.on_no_reply-decision.ensures,
+      ← c.run_ruling-ruling.ensures,
+      c.in-Accept.is,
+    ) c.carry_out.ensures

@@ -1,0 +1,13 @@
+-- `upload_request` meets its contract. Assumes nothing.
+use borrow.Author.Rules.{rules}
+use Rattle.client_run.proofs.requests.upload_request.Goals as goal
+
+pub returns-in-Opening : goal.returns-in-Opening
+returns-in-Opening c = simp (c.in-Opening.is, ← c.nonce_of.ensures, ← c.opening_of.ensures)
+
+pub returns-in-Segment : goal.returns-in-Segment
+returns-in-Segment c =
+    simp (c.in-Segment.is, ← c.last_mark_of.ensures, ← c.upload_transfer.ensures)
+
+pub returns-in-Receipt : goal.returns-in-Receipt
+returns-in-Receipt c = simp (c.in-Receipt.is, ← c.receipt.ensures)

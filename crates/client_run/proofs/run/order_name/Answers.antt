@@ -1,0 +1,6 @@
+-- The run's own fields, and the type of its direction.
+use borrow.Author.Rules.{rules}
+use Rattle.client_run.proofs.run.order_name.Goals as goal
+
+pub returns : goal.returns
+returns c = rw (← c.order_type_of.ensures)

@@ -1,0 +1,16 @@
+-- `new_order` meets its contract. The loop's invariant: the tests so far. Assumes nothing.
+use Prim.Native.Nat.{◌-◌, ◌≤◌}
+use mathlib.Core.Path.{◌≡◌, sym, ap, ◌∙◌}
+use mathlib.Core.Bool.{not}
+use native.Mathlib.Omega.{arith}
+use Rattle.image_records.specs.Shapes.{every}
+use Rattle.image_conditions.specs.Conditions.{same_order}
+use Rattle.image_records.proofs.Shapes.{every-none, every-next}
+use borrow.Author.Rules.{rules}
+use Rattle.image_conditions.proofs.tables.new_order.Given as goal
+
+abbrev pub invariant-loop-j : goal.invariant-loop-j
+invariant-loop-j l = (l.j ≤ l.i) × (l.ok ≡ every (λ j'. not (same_order l.numbers l.i j')) l.j)
+
+abbrev pub decreases-loop-j : goal.decreases-loop-j
+decreases-loop-j l = l.i - l.j

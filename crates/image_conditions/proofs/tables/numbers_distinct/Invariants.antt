@@ -1,0 +1,16 @@
+-- `numbers_distinct` meets its contract. The loop's invariant: the tests so far. Assumes nothing.
+use Prim.Native.Nat.{◌-◌, ◌≤◌}
+use mathlib.Core.Path.{◌≡◌, sym, ap, ◌∙◌}
+use mathlib.Core.Bool.{not}
+use native.Mathlib.Omega.{arith}
+use Rattle.image_records.specs.Shapes.{every, distinct}
+use Rattle.image_conditions.specs.Conditions.{numbers_distinct, same_number}
+use Rattle.image_records.proofs.Shapes.{every-none, every-next}
+use borrow.Author.Rules.{rules}
+use Rattle.image_conditions.proofs.tables.numbers_distinct.Given as goal
+
+abbrev pub invariant-loop-i : goal.invariant-loop-i
+invariant-loop-i l = (l.i ≤ 16) × (l.ok ≡ every (λ i'. every (λ j. not (same_number l.numbers i' j)) i') l.i)
+
+abbrev pub decreases-loop-i : goal.decreases-loop-i
+decreases-loop-i l = 16 - l.i
