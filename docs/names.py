@@ -10,8 +10,8 @@ ROOT = Path(__file__).resolve().parent.parent
 WORD = re.compile(r"[^\W\d](?:[\w']|[-](?=\w))*")
 QUALIFIED = re.compile(r"(%s)(::|\.)(%s)" % (WORD.pattern, WORD.pattern))
 # Words of commands, of the kit and of other papers; endings of files.
-KNOWN = set("bash rt check ci dev doc version run git clone target bin kit txt md py NAME README papers scope tools "
-            "rattle-kit-13f put_ list1245 list1343 bank1238 client1215 session807 damaged807 EBICS_POSTPROCESS_DONE".split())
+KNOWN = set("bash rt check list-axioms ci dev doc version run git clone kit txt md py NAME README papers scope tools "
+            "rattle-kit-13f logic dac8208d650f15bf cd put_ list1245 list1343 bank1238 client1215 session807 damaged807 EBICS_POSTPROCESS_DONE".split())
 ENDINGS = {"rt", "antt", "edit", "md", "txt", "py"}
 
 
@@ -55,7 +55,9 @@ class Tree:
         if edit and (ROOT / "crates" / edit.group(1)).is_dir() and quoted not in self.edits:
             if not (ROOT / "crates" / quoted).exists():
                 yield quoted
-        for place, _, name in QUALIFIED.findall(quoted):
+        for place, mark, name in QUALIFIED.findall(quoted):
+            if place == "Rattle" or (mark == "." and place[0].islower() and place not in self.by_stem):
+                continue  # a path from the top; a part of a value
             there = self.by_stem.get(place, set()) | self.by_type.get(place, set())
             if name not in ENDINGS and place in self.names and name in self.names and name not in there:
                 yield f"{name} in {place}"

@@ -1,5 +1,6 @@
 // The bank's state in lent rows of numbers: their layout, the numbers before the rows, and the order places.
 #![tactic(auto)]
+
 pub mod layout;
 pub mod numbers;
 pub mod places;

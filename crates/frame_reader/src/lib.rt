@@ -1,3 +1,4 @@
 // Reading a frame: one reader over the tables.
 #![tactic(auto)]
+
 pub mod reader;

@@ -1,6 +1,7 @@
 // The messages of the practice bank: return codes, order numbers, editions, the numbers that both ends share, and each request
 // and reply as the fields of its form.
 #![tactic(auto)]
+
 pub mod codes;
 pub mod editions;
 pub mod limits;

@@ -7,7 +7,6 @@ use Rattle.bank_state.specs.Search.{open_count}
 use Rattle.bank_state.proofs.Rows.{count-le}
 use Rattle.bank_rows.specs.State.{bank_of, download_count_of}
 use Rattle.bank_rows.proofs.Reading.{length-places-of, open-downloads, free-download}
-use borrow.Author.Rules.{rules}
 use Rattle.bank_lists.proofs.counts.open_count.Goals as goal
 
 pub overflow_add-result : goal.overflow_add-result

@@ -6,7 +6,6 @@ use Rattle.bank_state.specs.Search.{open_count_of}
 use Rattle.bank_state.proofs.Rows.{count-le}
 use Rattle.bank_rows.specs.State.{bank_of}
 use Rattle.bank_rows.proofs.Reading.{length-places-of, length-downloads-of}
-use borrow.Author.Rules.{rules}
 use Rattle.bank_lists.proofs.counts.open_count_of.Goals as goal
 
 pub overflow_add-result : goal.overflow_add-result

@@ -1,7 +1,6 @@
 -- The next row is written and the count is one more.
 use Rattle.bank_rows.proofs.Reading.{free-download}
 use Rattle.bank_rows.proofs.Writing.{download-add}
-use borrow.Author.Rules.{rules}
 use Rattle.bank_lists.proofs.downloads.add_download.Goals as goal
 
 pub put_download-requires : goal.put_download-requires

@@ -1,7 +1,6 @@
 -- Each field is a number of the row.
 use mathlib.Core.Path.{sym}
 use Rattle.bank_rows.proofs.Reading.{download-read}
-use borrow.Author.Rules.{rules}
 use Rattle.bank_lists.proofs.downloads.download_at.Goals as goal
 
 pub returns : goal.returns

@@ -4,7 +4,6 @@ use Rattle.bank_state.specs.Clock.{end_downloads}
 use Rattle.bank_rows.specs.Records.{stays_open}
 use Rattle.bank_rows.proofs.Records.{stays_open_lem}
 use Rattle.bank_rows.proofs.Writing.{downloads-lent}
-use borrow.Author.Rules.{rules}
 use Rattle.bank_lists.proofs.downloads.end_downloads.Goals as goal
 
 pub returns : goal.returns

@@ -2,7 +2,6 @@
 use Rattle.bank_state.specs.Clock.{ends, is_idle}
 use lib.Seq.{get_or-drop}
 use Rattle.bank_rows.specs.Layout.{download_subscriber, download_last}
-use borrow.Author.Rules.{rules}
 use Rattle.bank_lists.proofs.downloads.ends_at.Goals as goal
 
 pub returns-in-Idle : goal.returns-in-Idle

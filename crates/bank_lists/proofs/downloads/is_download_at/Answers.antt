@@ -3,7 +3,6 @@ use Prim.Native.Nat.{◌+◌, ◌*◌}
 use borrow.Author.Tests.{eq-eqb, ne_eqb}
 use Rattle.bank_rows.specs.Layout.{downloads_at, download_width}
 use Rattle.bank_rows.proofs.Reading.{download-read, download-low, download-high, download-subscriber}
-use borrow.Author.Rules.{rules}
 use Rattle.bank_lists.proofs.downloads.is_download_at.Goals as goal
 
 pub returns-then-rows-at : goal.returns-then-rows-at

@@ -1,6 +1,5 @@
 -- A row in use is open, and its subscriber is a number of the row.
 use Rattle.bank_rows.proofs.Reading.{download-read}
-use borrow.Author.Rules.{rules}
 use Rattle.bank_lists.proofs.downloads.is_download_of.Goals as goal
 
 pub returns : goal.returns

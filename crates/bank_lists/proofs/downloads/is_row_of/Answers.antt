@@ -1,7 +1,6 @@
 -- The low half of the ID is looked at first; any number that differs says no.
 use borrow.Author.Tests.{eq-eqb, ne_eqb}
 use Rattle.bank_rows.proofs.Reading.{download-from, download-low, download-high, download-subscriber}
-use borrow.Author.Rules.{rules}
 use Rattle.bank_lists.proofs.downloads.is_row_of.Goals as goal
 
 pub returns-then-area-at : goal.returns-then-area-at

@@ -1,11 +1,9 @@
 -- Of the rows passed those that stay stand at the front; then the rows after them are wiped.
-use borrow.Author.Rules.{rules}
-use Prim.Native.Nat.{◌-◌}
 use mathlib.Core.Path.{sym, ap, ◌∙◌}
 use native.Mathlib.Omega.{arith}
 use Rattle.bank_rows.specs.Layout.{download_width}
 use Rattle.bank_rows.specs.Records.{download_of, download_row, stays_open}
-use Rattle.bank_lists.proofs.Keeping.{Keeping, keeping_start, keeping_moved, keeping_none, keeping-end}
+use Rattle.bank_lists.proofs.Keeping.{keeping_start, keeping_moved, keeping_none, keeping-end}
 use Rattle.bank_rows.proofs.Records.{download-wide, download-row}
 use mathlib.Core.Bool.{not}
 use Rattle.bank_lists.proofs.downloads.keep_downloads.Goals as goal

@@ -2,7 +2,6 @@
 use native.Mathlib.Omega.{arith}
 use mathlib.Core.Path.{◌∙◌}
 use Rattle.bank_rows.proofs.Writing.{download-write}
-use borrow.Author.Rules.{rules}
 use Rattle.bank_lists.proofs.downloads.set_download.Goals as goal
 
 pub put_download-requires : goal.put_download-requires

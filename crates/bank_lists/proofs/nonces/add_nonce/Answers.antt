@@ -3,7 +3,6 @@ use mathlib.Core.Path.{refl}
 use Rattle.bank_rows.specs.Records.{bits, nonce_record}
 use Rattle.bank_rows.proofs.Reading.{free-nonce}
 use Rattle.bank_rows.proofs.Writing.{nonce-add}
-use borrow.Author.Rules.{rules}
 use Rattle.bank_lists.proofs.nonces.add_nonce.Goals as goal
 
 pub returns : goal.returns

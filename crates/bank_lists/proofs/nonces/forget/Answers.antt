@@ -4,7 +4,6 @@ use Rattle.bank_state.specs.Clock.{forget}
 use Rattle.bank_rows.specs.Records.{stays_remembered}
 use Rattle.bank_rows.proofs.Records.{stays-kept}
 use Rattle.bank_rows.proofs.Writing.{nonces-lent}
-use borrow.Author.Rules.{rules}
 use Rattle.bank_lists.proofs.nonces.forget.Goals as goal
 
 pub returns : goal.returns

@@ -3,7 +3,6 @@ use Prim.Native.Nat.{◌+◌, ◌*◌}
 use borrow.Author.Tests.{eq-eqb, ne_eqb}
 use Rattle.bank_rows.specs.Layout.{nonces_at, nonce_width}
 use Rattle.bank_rows.proofs.Reading.{nonce-read, nonce-low, nonce-high}
-use borrow.Author.Rules.{rules}
 use Rattle.bank_lists.proofs.nonces.is_nonce_at.Goals as goal
 
 pub returns-then-rows-at : goal.returns-then-rows-at

@@ -1,13 +1,9 @@
 -- The search passes the nonces that are others; a free record is none.
-use native.Mathlib.Omega.{arith}
-use borrow.Author.Rules.{rules}
 use Prim.Native.Nat.{◌-◌, ◌≤◌}
-use mathlib.Core.Path.{◌≡◌, refl, sym, ◌∙◌}
-use Rattle.bank_state.specs.State.{no_nonce}
-use Rattle.bank_state.proofs.Loops.{Searched, searched-start, searched-next, searched-hit}
+use Rattle.bank_state.proofs.Loops.{Searched}
 use Rattle.bank_rows.specs.Records.{bits}
-use Rattle.bank_rows.specs.State.{bank_of, nonce_count_of}
-use Rattle.bank_rows.proofs.Reading.{is_nonce, length-nonces-of, no-nonce, remembered, not-remembered}
+use Rattle.bank_rows.specs.State.{bank_of}
+use Rattle.bank_rows.proofs.Reading.{is_nonce}
 use Rattle.bank_lists.proofs.nonces.is_remembered.Given as goal
 
 abbrev pub invariant-loop-i : goal.invariant-loop-i

@@ -1,12 +1,11 @@
 -- Where all rows stay, so do their numbers. Else of the rows passed those that stay stand at the front; then the rows
 -- after them are wiped.
-use borrow.Author.Rules.{rules}
-use Prim.Native.Nat.{◌-◌, ◌*◌}
+use Prim.Native.Nat.{◌*◌}
 use mathlib.Core.Path.{sym, ◌∙◌}
 use native.Mathlib.Omega.{arith}
 use Rattle.bank_rows.specs.Layout.{nonce_width}
 use Rattle.bank_rows.specs.Records.{nonce_of, nonce_row, stays_remembered, row_stays}
-use Rattle.bank_lists.proofs.Keeping.{Keeping, keeping_start, keeping_moved, keeping_none, keeping-end, kept-all}
+use Rattle.bank_lists.proofs.Keeping.{keeping_start, keeping_moved, keeping_none, keeping-end, kept-all}
 use Rattle.bank_rows.proofs.Records.{nonce-wide, nonce-row, stays-remembered}
 use Rattle.bank_rows.proofs.Tests.{all-holds}
 use Rattle.bank_lists.proofs.nonces.keep_nonces.Goals as goal

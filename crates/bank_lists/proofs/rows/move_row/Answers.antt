@@ -4,7 +4,6 @@ use mathlib.Core.Path.{sym, ap, ◌∙◌}
 use lib.ListN.{take, drop}
 use Rattle.octets.specs.Bytes.{overwrite}
 use Rattle.bank_lists.proofs.Keeping.{overwrite-own}
-use borrow.Author.Rules.{rules}
 use Rattle.bank_lists.proofs.rows.move_row.Goals as goal
 
 pub returns-then-to-from : goal.returns-then-to-from

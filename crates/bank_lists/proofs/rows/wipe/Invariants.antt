@@ -1,13 +1,8 @@
 -- The numbers from the first place up to i are 0.
-use borrow.Author.Rules.{rules}
-use Prim.Native.Nat.{ℕ, ◌-◌, ◌≤◌}
-use mathlib.Core.List.{List}
-use mathlib.Core.Path.{◌≡◌, refl, sym, ap, ◌∙◌}
-use native.Mathlib.Omega.{arith}
-use lib.ListN.{length, set, replicate, length-set}
+use Prim.Native.Nat.{◌-◌, ◌≤◌}
+use mathlib.Core.Path.{◌≡◌}
+use lib.ListN.{length, replicate}
 use Rattle.octets.specs.Bytes.{overwrite}
-use Rattle.octets.proofs.Numbers.{overwrite-nil}
-use Rattle.bank_rows.proofs.General.{wiped-next}
 use Rattle.bank_lists.proofs.rows.wipe.Given as goal
 
 abbrev pub invariant-loop-i : goal.invariant-loop-i

@@ -1,7 +1,6 @@
 -- The clock is the first number.
 use mathlib.Core.Path.{refl}
 use Rattle.bank_rows.specs.State.{bank_of}
-use borrow.Author.Rules.{rules}
 use Rattle.bank_rows.proofs.numbers.clock.Goals as goal
 
 pub returns : goal.returns

@@ -5,7 +5,6 @@ use lib.ListN.{get_or-eq_default}
 use Rattle.bank_state.specs.State.{file_length}
 use Rattle.bank_rows.specs.State.{bank_of}
 use Rattle.bank_rows.proofs.State.{held_rows}
-use borrow.Author.Rules.{rules}
 use Rattle.bank_rows.proofs.numbers.file_length_of.Goals as goal
 
 pub returns-then-subscriber-eq0 : goal.returns-then-subscriber-eq0

@@ -1,6 +1,5 @@
 -- The counters of the series stand one after another.
 use Rattle.bank_rows.proofs.Reading.{series-read}
-use borrow.Author.Rules.{rules}
 use Rattle.bank_rows.proofs.numbers.series_at.Goals as goal
 
 pub returns : goal.returns

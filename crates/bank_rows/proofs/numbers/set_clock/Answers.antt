@@ -1,6 +1,5 @@
 -- The first number is the clock.
 use Rattle.bank_rows.proofs.Writing.{clock-write}
-use borrow.Author.Rules.{rules}
 use Rattle.bank_rows.proofs.numbers.set_clock.Goals as goal
 
 pub returns : goal.returns

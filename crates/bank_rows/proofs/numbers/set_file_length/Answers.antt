@@ -1,6 +1,5 @@
 -- The lengths of the files stand one after another.
 use Rattle.bank_rows.proofs.Writing.{file-write}
-use borrow.Author.Rules.{rules}
 use Rattle.bank_rows.proofs.numbers.set_file_length.Goals as goal
 
 pub returns : goal.returns

@@ -1,6 +1,5 @@
 -- The openings accepted are a number of their own.
 use Rattle.bank_rows.proofs.Writing.{openings-write}
-use borrow.Author.Rules.{rules}
 use Rattle.bank_rows.proofs.numbers.set_openings.Goals as goal
 
 pub returns : goal.returns

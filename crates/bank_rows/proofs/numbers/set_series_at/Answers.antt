@@ -1,6 +1,5 @@
 -- The counters of the series stand one after another.
 use Rattle.bank_rows.proofs.Writing.{series-write}
-use borrow.Author.Rules.{rules}
 use Rattle.bank_rows.proofs.numbers.set_series_at.Goals as goal
 
 pub returns : goal.returns

@@ -1,7 +1,6 @@
 -- A subscriber from 1 to 8 has a series; after the eight nothing is set, as in the definition.
 use native.Mathlib.Omega.{arith}
 use Rattle.bank_rows.proofs.Writing.{series-none}
-use borrow.Author.Rules.{rules}
 use Rattle.bank_rows.proofs.numbers.set_series_of.Goals as goal
 
 pub returns-then-subscriber-eq0 : goal.returns-then-subscriber-eq0

@@ -1,13 +1,9 @@
 -- The search passes the places that hold another number or none.
 use native.Mathlib.Omega.{arith}
-use borrow.Author.Rules.{rules}
-use Prim.Native.Nat.{◌-◌}
 use mathlib.Core.Path.{sym, ◌∙◌}
-use Rattle.bank_state.specs.Search.{holds_number, find_number}
-use Rattle.bank_state.specs.Limits.{place_count}
+use Rattle.bank_state.specs.Search.{find_number}
 use Rattle.bank_state.specs.State.{no_place}
-use Rattle.bank_state.proofs.Loops.{Searched, searched-start, searched-next, searched-hit, searched-end}
-use Rattle.bank_rows.specs.State.{bank_of}
+use Rattle.bank_state.proofs.Loops.{searched-start, searched-next, searched-hit, searched-end}
 use Rattle.bank_rows.proofs.Reading.{length-places-of}
 use Rattle.bank_rows.proofs.places.find_number.Goals as goal
 

@@ -1,15 +1,10 @@
 -- The search passes the places in use.
-use native.Mathlib.Omega.{arith}
-use borrow.Author.Rules.{rules}
 use Prim.Native.Nat.{◌-◌}
-use mathlib.Core.Path.{sym, ◌∙◌}
 use Rattle.bank_state.specs.declared.state.Place.{Place}
-use Rattle.bank_state.specs.Search.{is_free, free_place}
+use Rattle.bank_state.specs.Search.{is_free}
 use Rattle.bank_state.specs.Limits.{place_count}
-use Rattle.bank_state.specs.State.{no_place}
-use Rattle.bank_state.proofs.Loops.{Searched, searched-start, searched-next, searched-hit, searched-end}
+use Rattle.bank_state.proofs.Loops.{Searched}
 use Rattle.bank_rows.specs.State.{bank_of}
-use Rattle.bank_rows.proofs.Reading.{length-places-of}
 use Rattle.bank_rows.proofs.places.free_place.Given as goal
 
 abbrev pub invariant-loop-i : goal.invariant-loop-i

@@ -3,7 +3,6 @@ use borrow.Author.Tests.{eq-eqb, ne_eqb}
 use Rattle.bank_state.specs.Search.{holds_number}
 use Rattle.bank_rows.proofs.Records.{free-is}
 use Rattle.bank_rows.proofs.Reading.{place_read}
-use borrow.Author.Rules.{rules}
 use Rattle.bank_rows.proofs.places.holds_number_at.Goals as goal
 
 pub returns-then-rows-at-eq-FREE : goal.returns-then-rows-at-eq-FREE

@@ -1,5 +1,4 @@
 -- A number is held where the search finds a place. Assumes nothing.
-use borrow.Author.Rules.{rules}
 use Rattle.bank_state.specs.Search.{is_number_held}
 use Rattle.bank_rows.proofs.places.is_number_held.Goals as goal
 

@@ -1,7 +1,6 @@
 -- The use of a place is a number of its row.
 use mathlib.Core.Path.{sym}
 use Rattle.bank_rows.proofs.Reading.{open-read}
-use borrow.Author.Rules.{rules}
 use Rattle.bank_rows.proofs.places.is_open_at.Goals as goal
 
 pub returns : goal.returns

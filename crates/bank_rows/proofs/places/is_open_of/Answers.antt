@@ -2,7 +2,6 @@
 use borrow.Author.Tests.{eq-eqb, ne_eqb}
 use Rattle.bank_rows.proofs.Records.{open_is}
 use Rattle.bank_rows.proofs.Reading.{place_read}
-use borrow.Author.Rules.{rules}
 use Rattle.bank_rows.proofs.places.is_open_of.Goals as goal
 
 pub returns-then-rows-at-ne-OPEN : goal.returns-then-rows-at-ne-OPEN

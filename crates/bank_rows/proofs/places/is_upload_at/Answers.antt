@@ -1,7 +1,6 @@
 -- The low half of the ID tells most places apart, so it is looked at first; any number that differs says no.
 use borrow.Author.Tests.{eq-eqb, ne_eqb}
 use Rattle.bank_rows.proofs.Reading.{upload-low, upload-high, upload-subscriber, upload-use}
-use borrow.Author.Rules.{rules}
 use Rattle.bank_rows.proofs.places.is_upload_at.Goals as goal
 
 pub returns-then-rows-at : goal.returns-then-rows-at

@@ -1,16 +1,8 @@
 -- Of the places passed, so many hold an open upload of the subscriber.
 use native.Mathlib.Omega.{arith}
-use borrow.Author.Rules.{rules}
-use Prim.Native.Nat.{◌-◌}
 use mathlib.Core.Path.{sym, ◌∙◌}
-use mathlib.Core.Bool.{◌&&◌}
-use lib.Dec.{eqb}
-use Rattle.bank_state.specs.Search.{is_open}
-use Rattle.bank_state.specs.declared.state.Place.{Place}
-use Rattle.bank_state.specs.Limits.{place_count}
 use Rattle.bank_state.specs.State.{no_place}
-use Rattle.bank_state.proofs.Loops.{Counted, counted_start, counted-one, counted_none, counted-end}
-use Rattle.bank_rows.specs.State.{bank_of}
+use Rattle.bank_state.proofs.Loops.{counted_start, counted-one, counted_none, counted-end}
 use Rattle.bank_rows.proofs.Reading.{length-places-of}
 use Rattle.bank_rows.proofs.places.open_uploads_of.Goals as goal
 

@@ -1,7 +1,6 @@
 -- Each field is a number of the row.
 use mathlib.Core.Path.{sym}
 use Rattle.bank_rows.proofs.Reading.{place_read}
-use borrow.Author.Rules.{rules}
 use Rattle.bank_rows.proofs.places.place_at.Goals as goal
 
 pub returns : goal.returns

@@ -1,7 +1,6 @@
 -- The eleven numbers of the place are written over its row.
 use mathlib.Core.Path.{◌∙◌}
 use Rattle.bank_rows.proofs.Writing.{place-write}
-use borrow.Author.Rules.{rules}
 use Rattle.bank_rows.proofs.places.set_place.Goals as goal
 
 pub returns : goal.returns

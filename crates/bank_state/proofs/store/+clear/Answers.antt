@@ -1,9 +1,8 @@
 -- Each half is shorter, and comes back zeroed.
-use Prim.Native.Nat.{ℕ, ◌+◌, ◌-◌, ◌/◌, ◌≤◌, ◌<◌}
+use Prim.Native.Nat.{ℕ, ◌+◌, ◌-◌, ◌/◌, ◌≤◌}
 use mathlib.Core.List.{List, ◌++◌, append-nil}
 use mathlib.Core.Path.{◌≡◌, sym, ap, ◌∙◌}
 use native.Mathlib.Omega.{arith}
-use borrow.Author.Rules.{rules}
 use borrow.Rule.Slice.PartMut.{put_mid, mid_of, mid_len, Post-is}
 use lib.ListN.{
   length,
@@ -16,7 +15,6 @@ use lib.ListN.{
   replicate-append-replicate,
 }
 use lib.Seq.{length-take-le, drop-length, take_at}
-
 use Rattle.bank_state.proofs.store.+clear.Goals as goal
 
 -- the bytes with the front half, of m bytes, come back as x

@@ -1,5 +1,4 @@
 -- The part that is lent comes back with the segment at its front.
-use borrow.Author.Rules.{rules}
 use native.Mathlib.Omega.{arith}
 use Rattle.bank_state.proofs.Stores.{appended}
 use Rattle.bank_state.proofs.store.append.Goals as goal

@@ -1,7 +1,6 @@
 -- What stands behind the places before it, and its front.
 use mathlib.Core.Path.{ap, ◌∙◌}
 use lib.ListN.{take}
-use native.Mathlib.Omega.{arith}
 use Rattle.message.specs.Limits.{file_bytes}
 use Rattle.bank_state.specs.Store.{part_at}
 use Rattle.bank_state.proofs.store.part.Goals as goal

@@ -1,5 +1,4 @@
 -- The part that is lent comes back zeroed.
-use borrow.Author.Rules.{rules}
 use Prim.Native.Nat.{◌*◌}
 use native.Mathlib.Omega.{arith}
 use Rattle.message.specs.Limits.{file_bytes}

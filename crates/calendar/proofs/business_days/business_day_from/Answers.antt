@@ -1,11 +1,11 @@
 -- Every day passed is closed, and the last one is not, so that the search ends in the calendar. Assumes nothing.
-use Prim.Native.Nat.{◌-◌, ◌≤◌, ◌<◌}
+use Prim.Native.Nat.{◌<◌}
 use mathlib.Core.Bool.{true}
 use mathlib.Core.Path.{◌≡◌, sym, ◌∙◌}
 use native.Mathlib.Omega.{arith}
 use Rattle.calendar.specs.Dates.{last_day}
 use Rattle.calendar.specs.BusinessDays.{is_closed}
-use Rattle.calendar.proofs.ExecutionDays.{NoneFrom, before_last, passed, stopped}
+use Rattle.calendar.proofs.ExecutionDays.{before_last, passed, stopped}
 use Rattle.calendar.proofs.business_days.business_day_from.Goals as goal
 
 pub loop-number-init : goal.loop-number-init

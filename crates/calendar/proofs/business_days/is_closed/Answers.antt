@@ -1,6 +1,5 @@
 -- The year is one of the table's, so that its Easter Sunday is at hand. Assumes nothing.
 use Prim.Native.Nat.{◌-◌, ◌≤◌, ◌<◌}
-use borrow.Author.Rules.{rules}
 use Rattle.calendar.specs.Dates.{first_year, year_count}
 use Rattle.calendar.proofs.EasterDays.{easter-most}
 use Rattle.calendar.proofs.ClosedDays.{closed-as, year-of}

@@ -1,7 +1,6 @@
 -- The list is gone through from front to back: the first test that holds decides. Assumes nothing.
 use mathlib.Core.Bool.{true, false, or-false}
 use mathlib.Core.Path.{◌≡◌}
-use borrow.Author.Rules.{rules}
 use Rattle.octets.proofs.Tests.{tests}
 use Rattle.calendar.specs.BusinessDays.{weekday_of, is_on}
 use Rattle.calendar.proofs.business_days.is_listed.Goals as goal

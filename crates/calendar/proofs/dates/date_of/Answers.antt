@@ -1,6 +1,5 @@
 -- The year's place and the month's in the year give the one date of the number. Assumes nothing.
 use native.Mathlib.Omega.{arith}
-use borrow.Author.Rules.{rules}
 use Rattle.calendar.proofs.DateNumbers.{rest_below, put-together}
 use Rattle.calendar.proofs.dates.date_of.Goals as goal
 

@@ -1,7 +1,6 @@
 -- The months are those of 1970, and from March on a leap day lies before them. Assumes nothing.
 use mathlib.Core.Path.{◌∙◌}
 use native.Mathlib.Omega.{arith}
-use borrow.Author.Rules.{rules}
 use Rattle.calendar.specs.Dates.{first_year}
 use Rattle.calendar.proofs.Lengths.{early-month, late-month, month-most, leap-most}
 use Rattle.calendar.proofs.dates.month_start.Goals as goal

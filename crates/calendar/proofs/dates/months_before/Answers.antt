@@ -1,6 +1,5 @@
 -- A month has at most 31 days, and all have little less. Assumes nothing.
 use native.Mathlib.Omega.{arith}
-use borrow.Author.Rules.{rules}
 use Rattle.calendar.proofs.Lengths.{month-next, month-here, leap-most}
 use Rattle.calendar.proofs.dates.months_before.Goals as goal
 

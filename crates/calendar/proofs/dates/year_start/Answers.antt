@@ -1,6 +1,5 @@
 -- The leap days of so many years are counted by fourths, hundreds and four hundreds. Assumes nothing.
 use native.Mathlib.Omega.{arith}
-use borrow.Author.Rules.{rules}
 use Rattle.calendar.proofs.Lengths.{year-start}
 use Rattle.calendar.proofs.dates.year_start.Goals as goal
 

@@ -1,6 +1,5 @@
 -- A year has 365 or 366 days, so that it is the one by 366 or the next. Assumes nothing.
 use native.Mathlib.Omega.{arith}
-use borrow.Author.Rules.{rules}
 use Rattle.calendar.proofs.Lengths.{year-next, year-here}
 use Rattle.calendar.proofs.dates.years_before.Goals as goal
 

@@ -1,7 +1,6 @@
 -- "all 230 entries agree with the Gregorian computus": one test, over the constant's own list. Assumes nothing.
 use Prim.Native.Nat.{◌+◌}
 use mathlib.Core.Path.{refl}
-use borrow.Author.Rules.{rules}
 use Rattle.calendar.specs.Dates.{first_year, year_count}
 use Rattle.calendar.specs.Easter.{letter_h, letter_l, letter_m, easter_sunday, easter_entry}
 use Rattle.calendar.proofs.Tables.{entry-of, agreed}

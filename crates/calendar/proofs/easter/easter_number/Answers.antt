@@ -2,7 +2,6 @@
 use Prim.Native.Nat.{◌+◌, ◌-◌, ◌*◌, ◌/◌, ◌≤◌}
 use mathlib.Core.Path.{◌≡◌}
 use native.Mathlib.Omega.{arith}
-use borrow.Author.Rules.{rules}
 use Rattle.calendar.specs.Dates.{first_year, year_count}
 use Rattle.calendar.specs.Easter.{easter_entry}
 use Rattle.calendar.proofs.Lengths.{year-lengths, month-most}

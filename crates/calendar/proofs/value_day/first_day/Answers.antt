@@ -1,5 +1,4 @@
 -- The time of day is before the cut-off, or it is not. Assumes nothing.
-use borrow.Author.Rules.{rules}
 use Rattle.octets.proofs.Tests.{tests}
 use Rattle.calendar.specs.ValueDay.{first_day}
 use Rattle.calendar.proofs.value_day.first_day.Goals as goal

@@ -1,6 +1,5 @@
 -- A first day in the calendar finds its business day in it, a later one does not. Assumes nothing.
 use native.Mathlib.Omega.{arith}
-use borrow.Author.Rules.{rules}
 use Rattle.calendar.proofs.ExecutionDays.{found-by-last}
 use Rattle.calendar.proofs.ValueDays.{refused-from, given-from}
 use Rattle.calendar.proofs.value_day.value_day.Goals as goal

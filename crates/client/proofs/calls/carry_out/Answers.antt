@@ -6,7 +6,6 @@ use lib.ListN.{length}
 use Rattle.client_run.specs.declared.run.Decision.{Decision}
 use Rattle.client_rules.proofs.Causes.{Cause, cause}
 use Rattle.client_rules.proofs.Feasible.{opened-takes, advance-takes, return_fits, return-left, repeat-fits}
-use borrow.Author.Rules.{rules}
 use Rattle.client.proofs.calls.carry_out.Goals as goal
 
 pub returns-in-Ignore : goal.returns-in-Ignore

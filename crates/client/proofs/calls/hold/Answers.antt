@@ -1,5 +1,4 @@
 -- `hold` meets its contract. Assumes nothing.
-use borrow.Author.Rules.{rules}
 use Rattle.client.proofs.calls.hold.Goals as goal
 
 pub put_segment-requires : goal.put_segment-requires

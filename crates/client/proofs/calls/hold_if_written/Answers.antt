@@ -1,5 +1,4 @@
 -- `hold_if_written` meets its contract. Assumes nothing.
-use borrow.Author.Rules.{rules}
 use Rattle.client.proofs.calls.hold_if_written.Goals as goal
 
 pub returns-in-Length : goal.returns-in-Length

@@ -3,7 +3,6 @@ use mathlib.Core.Path.{sym}
 use Rattle.client.specs.Calls.{is_written, request_with}
 use Rattle.client_run.specs.Run.{lent_of}
 use Rattle.client.proofs.Issues.{issued-is, if-same}
-use borrow.Author.Rules.{rules}
 use Rattle.client.proofs.calls.issue.Goals as goal
 
 pub returns : goal.returns

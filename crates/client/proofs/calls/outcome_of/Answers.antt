@@ -1,5 +1,4 @@
 -- `outcome_of` meets its contract. Assumes nothing.
-use borrow.Author.Rules.{rules}
 use Rattle.client.proofs.calls.outcome_of.Goals as goal
 
 pub returns-in-Length : goal.returns-in-Length

@@ -1,6 +1,5 @@
 -- What `take_reply` reads is what `carry_out` is given, so the decision is the reply's. Assumes nothing.
 use mathlib.Core.Logic.{inl}
-use borrow.Author.Rules.{rules}
 use Rattle.client.proofs.calls.take_reply.Goals as goal
 
 pub carry_out-requires : goal.carry_out-requires

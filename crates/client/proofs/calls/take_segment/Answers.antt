@@ -4,7 +4,6 @@ use Rattle.client.specs.Calls.{is_written, request_with, taken}
 use Rattle.client_run.specs.NextRun.{go_on, file_with}
 use Rattle.client_run.specs.Run.{lent_of}
 use Rattle.client.proofs.Issues.{issued-is}
-use borrow.Author.Rules.{rules}
 use Rattle.client.proofs.calls.take_segment.Goals as goal
 
 pub holding-held-requires : goal.holding-held-requires

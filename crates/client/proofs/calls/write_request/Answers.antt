@@ -1,5 +1,4 @@
 -- `write_request` meets its contract. Assumes nothing.
-use borrow.Author.Rules.{rules}
 use Rattle.client.proofs.calls.write_request.Goals as goal
 
 pub returns : goal.returns

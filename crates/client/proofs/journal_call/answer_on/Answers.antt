@@ -1,5 +1,4 @@
 -- `answer_on` meets its contract. Assumes nothing.
-use borrow.Author.Rules.{rules}
 use Rattle.client.proofs.journal_call.answer_on.Goals as goal
 
 pub returns-in-Booked : goal.returns-in-Booked

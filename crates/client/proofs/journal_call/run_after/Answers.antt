@@ -1,5 +1,4 @@
 -- `run_after` meets its contract. Assumes nothing.
-use borrow.Author.Rules.{rules}
 use Rattle.client.proofs.journal_call.run_after.Goals as goal
 
 pub returns-in-Closed : goal.returns-in-Closed

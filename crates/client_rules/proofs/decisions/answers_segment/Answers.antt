@@ -1,5 +1,4 @@
 -- `answers_segment` meets its contract. Assumes nothing.
-use borrow.Author.Tests.{not-false, not-true}
 use Rattle.client_rules.specs.Decisions.{answers_segment}
 use Rattle.client_rules.proofs.decisions.answers_segment.Goals as goal
 

@@ -1,5 +1,4 @@
 -- `brings_segment` meets its contract. Assumes nothing.
-use borrow.Author.Tests.{not-false, not-true}
 use Rattle.client_rules.specs.Decisions.{brings_segment}
 use Rattle.client_rules.proofs.decisions.brings_segment.Goals as goal
 

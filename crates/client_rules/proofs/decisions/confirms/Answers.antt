@@ -1,5 +1,4 @@
 -- `confirms` meets its contract. Assumes nothing.
-use borrow.Author.Tests.{not-false, not-true}
 use Rattle.client_rules.specs.Decisions.{confirms}
 use Rattle.client_rules.proofs.decisions.confirms.Goals as goal
 

@@ -1,5 +1,5 @@
 -- `is_answer` meets its contract. Assumes nothing.
-use borrow.Author.Tests.{eq-eqb, ne_eqb, not-false, not-true}
+use borrow.Author.Tests.{eq-eqb, ne_eqb}
 use Rattle.client_rules.specs.Decisions.{is_answer}
 use Rattle.client_rules.proofs.decisions.is_answer.Goals as goal
 

@@ -1,5 +1,4 @@
 -- `is_point` meets its contract. Assumes nothing.
-use borrow.Author.Tests.{not-false, not-true}
 use Rattle.client_rules.specs.Decisions.{is_point}
 use Rattle.client_rules.proofs.decisions.is_point.Goals as goal
 

@@ -1,5 +1,4 @@
 -- `lodges` meets its contract. Assumes nothing.
-use borrow.Author.Tests.{not-false, not-true}
 use Rattle.client_rules.specs.Decisions.{lodges}
 use Rattle.client_rules.proofs.decisions.lodges.Goals as goal
 

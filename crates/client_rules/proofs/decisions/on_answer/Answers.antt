@@ -1,6 +1,5 @@
 -- `on_answer` meets its contract. Assumes nothing.
 use Rattle.client_rules.specs.Decisions.{on_upload, on_download}
-use borrow.Author.Rules.{rules}
 use Rattle.client_rules.proofs.decisions.on_answer.Goals as goal
 
 pub returns-in-Opening : goal.returns-in-Opening

@@ -1,5 +1,4 @@
 -- Each edition's form.
-use borrow.Author.Rules.{rules}
 use Rattle.client_rules.proofs.decisions.opened_form.Goals as goal
 
 pub returns-in-V24 : goal.returns-in-V24

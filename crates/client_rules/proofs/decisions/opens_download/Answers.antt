@@ -1,5 +1,5 @@
 -- `opens_download` meets its contract. Assumes nothing.
-use borrow.Author.Tests.{eq-eqb, ne_eqb, not-false, not-true}
+use borrow.Author.Tests.{eq-eqb, ne_eqb}
 use Rattle.client_rules.specs.Decisions.{opens_download}
 use Rattle.client_rules.proofs.decisions.opens_download.Goals as goal
 

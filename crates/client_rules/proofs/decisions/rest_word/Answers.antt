@@ -1,6 +1,5 @@
 -- `rest_word` meets its contract. Assumes nothing.
 use Rattle.client_rules.specs.Decisions.{rest_word}
-use borrow.Author.Rules.{rules}
 use Rattle.client_rules.proofs.decisions.rest_word.Goals as goal
 
 pub returns-in-Upload : goal.returns-in-Upload

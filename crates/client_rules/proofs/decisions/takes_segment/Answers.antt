@@ -1,5 +1,4 @@
 -- `takes_segment` meets its contract. Assumes nothing.
-use borrow.Author.Tests.{not-false, not-true}
 use Rattle.client_rules.specs.Decisions.{takes_segment}
 use Rattle.client_rules.proofs.decisions.takes_segment.Goals as goal
 

@@ -1,5 +1,5 @@
 -- `upload_returns` meets its contract. Assumes nothing.
-use borrow.Author.Tests.{le-leb, le-ltb, lt-leb, lt-ltb, not-false, not-true}
+use borrow.Author.Tests.{le-leb, le-ltb, lt-leb, lt-ltb}
 use Rattle.client_rules.specs.Decisions.{upload_returns}
 use Rattle.client_rules.proofs.decisions.upload_returns.Goals as goal
 

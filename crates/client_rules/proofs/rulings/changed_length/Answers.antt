@@ -1,5 +1,4 @@
 -- `changed_length` meets its contract. Assumes nothing.
-use borrow.Author.Rules.{rules}
 use Rattle.client_rules.proofs.rulings.changed_length.Goals as goal
 
 pub returns-in-Upload : goal.returns-in-Upload

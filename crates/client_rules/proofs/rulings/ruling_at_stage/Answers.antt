@@ -1,5 +1,4 @@
 -- `ruling_at_stage` meets its contract. Assumes nothing.
-use borrow.Author.Rules.{rules}
 use Rattle.client_rules.proofs.rulings.ruling_at_stage.Goals as goal
 
 pub returns-in-NotBegun : goal.returns-in-NotBegun

@@ -1,5 +1,4 @@
 -- `wrong_buffers` meets its contract. Assumes nothing.
-use borrow.Author.Rules.{rules}
 use Rattle.client_rules.proofs.rulings.wrong_buffers.Goals as goal
 
 pub returns-in-Upload : goal.returns-in-Upload

@@ -1,6 +1,5 @@
 -- `go_on` meets its contract. Assumes nothing.
 use Rattle.client_run.specs.NextRun.{go_on}
-use borrow.Author.Rules.{rules}
 use Rattle.client_run.proofs.next_run.go_on.Goals as goal
 
 pub returns : goal.returns

@@ -1,5 +1,4 @@
 -- `learned` meets its contract. Assumes nothing.
-use borrow.Author.Rules.{rules}
 use Rattle.client_run.proofs.next_run.learned.Goals as goal
 
 pub returns-in-Upload : goal.returns-in-Upload

@@ -1,5 +1,4 @@
 -- By the edition: the number of begin, or the reply's.
-use borrow.Author.Rules.{rules}
 use Rattle.client_run.proofs.next_run.learned_number.Goals as goal
 
 pub returns-in-V24 : goal.returns-in-V24

@@ -1,6 +1,5 @@
 -- A segment's place is within the most segments, so no number wraps. Assumes nothing.
 use native.Mathlib.Omega.{arith}
-use borrow.Author.Rules.{rules}
 use Rattle.client_run.proofs.next_run.length_with.Goals as goal
 
 pub overflow_sub-result : goal.overflow_sub-result

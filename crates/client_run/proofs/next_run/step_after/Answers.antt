@@ -1,5 +1,4 @@
 -- `step_after` meets its contract. Assumes nothing.
-use borrow.Author.Rules.{rules}
 use Rattle.client_run.proofs.next_run.step_after.Goals as goal
 
 pub returns-in-Download : goal.returns-in-Download

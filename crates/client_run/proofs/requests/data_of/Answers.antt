@@ -1,6 +1,5 @@
 -- `data_of` meets its contract. Assumes nothing.
 use Rattle.client_run.specs.Requests.{outstanding_data}
-use borrow.Author.Rules.{rules}
 use Rattle.client_run.proofs.requests.data_of.Goals as goal
 
 pub returns-in-Upload : goal.returns-in-Upload

@@ -1,5 +1,4 @@
 -- `download_request` meets its contract. Assumes nothing.
-use borrow.Author.Rules.{rules}
 use Rattle.client_run.proofs.requests.download_request.Goals as goal
 
 pub returns-in-Opening : goal.returns-in-Opening

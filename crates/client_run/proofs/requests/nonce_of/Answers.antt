@@ -4,7 +4,6 @@ use mathlib.Core.Path.{◌≡◌, subst}
 use native.Mathlib.Omega.{arith}
 use lib.ListN.{length, take, drop, length-take, length-drop}
 use lib.Seq.{take_all}
-use borrow.Author.Rules.{rules}
 use Rattle.client_run.specs.Requests.{nonce_of}
 use Rattle.client_run.proofs.requests.nonce_of.Goals as goal
 

@@ -1,5 +1,4 @@
 -- By the edition: with the number of begin, or without one.
-use borrow.Author.Rules.{rules}
 use Rattle.client_run.proofs.requests.opening_of.Goals as goal
 
 pub returns-in-V24 : goal.returns-in-V24

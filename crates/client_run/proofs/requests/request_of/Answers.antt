@@ -1,6 +1,5 @@
 -- `request_of` meets its contract. Assumes nothing.
 use Rattle.client_run.specs.Requests.{outstanding}
-use borrow.Author.Rules.{rules}
 use Rattle.client_run.proofs.requests.request_of.Goals as goal
 
 pub returns-in-Upload : goal.returns-in-Upload

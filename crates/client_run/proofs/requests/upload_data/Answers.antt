@@ -1,5 +1,4 @@
 -- `upload_data` meets its contract. Assumes nothing.
-use borrow.Author.Rules.{rules}
 use Rattle.client_run.proofs.requests.upload_data.Goals as goal
 
 pub returns-in-Segment : goal.returns-in-Segment

@@ -1,5 +1,4 @@
 -- The run's own fields, and the type of its direction.
-use borrow.Author.Rules.{rules}
 use Rattle.client_run.proofs.run.order_name.Goals as goal
 
 pub returns : goal.returns

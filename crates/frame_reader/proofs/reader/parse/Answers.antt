@@ -2,7 +2,6 @@
 use mathlib.Core.Path.{refl, ◌∙◌}
 use Prim.Native.Nat.{◌+◌}
 use native.Mathlib.Omega.{arith}
-use borrow.Author.Rules.{rules}
 use Rattle.frame_table.specs.Table.{data_tag}
 use Rattle.frame_reader.specs.Reader.{said, parse}
 use Rattle.frame_reader.proofs.Walk.{Read, read-start, read_next, read-end, data-tail, end-within, end_after, data-stand}

@@ -1,7 +1,6 @@
 -- `listed` meets its contract: the values of the tag say which test it is. Assumes nothing.
 use mathlib.Core.Path.{sym, ap, ◌∙◌}
 use native.Mathlib.Omega.{arith}
-use borrow.Author.Rules.{rules}
 use Rattle.frame_table.specs.Table.{in_range}
 use Rattle.frame_table.proofs.Values.{range-narrow}
 use Rattle.frame_row.proofs.Contents.{listed-as}

@@ -1,11 +1,8 @@
 -- `spelled` meets its contract. The loop's invariant: every byte passed is one of the characters. Assumes nothing.
-use mathlib.Core.Path.{◌≡◌, refl, sym, ◌∙◌}
+use mathlib.Core.Path.{◌≡◌}
 use Prim.Native.Nat.{◌≤◌, ◌-◌}
 use lib.ListN.{length, drop}
-use borrow.Author.Rules.{rules}
-use borrow.Author.Tests.{not-true, not-false}
 use Rattle.frame_row.specs.Row.{spelled}
-use Rattle.frame_row.proofs.Contents.{spelled_step, spelled-end}
 use Rattle.frame_row.proofs.content.spelled.Given as goal
 
 abbrev pub invariant-loop-i : goal.invariant-loop-i

@@ -1,5 +1,4 @@
 -- `well_formed` meets its contract. Assumes nothing.
-use borrow.Author.Rules.{rules}
 use Rattle.frame_row.specs.Row.{well_formed}
 use Rattle.octets.proofs.Tests.{tests}
 use Rattle.frame_row.proofs.content.well_formed.Goals as goal

@@ -1,6 +1,5 @@
 -- `allowed` meets its contract: each case is its own test of the byte. Assumes nothing.
 use mathlib.Core.Path.{◌∙◌}
-use borrow.Author.Rules.{rules}
 use Rattle.frame_table.specs.Table.{allowed}
 use Rattle.frame_table.proofs.table.allowed.Goals as goal
 

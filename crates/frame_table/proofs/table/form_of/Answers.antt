@@ -1,6 +1,5 @@
 -- `form_of` meets its contract. Assumes nothing.
 use mathlib.Core.Path.{sym, ◌∙◌}
-use borrow.Author.Rules.{rules}
 use borrow.Author.Tests.{ne_eqb}
 use Rattle.frame_table.specs.Table.{row_fits, find_form, form_of}
 use Rattle.frame_table.proofs.table.form_of.Goals as goal

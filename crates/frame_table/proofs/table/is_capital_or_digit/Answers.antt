@@ -1,6 +1,5 @@
 -- `is_capital_or_digit` meets its contract: the first range decides, or the second. Assumes nothing.
 use mathlib.Core.Path.{sym, ◌∙◌}
-use borrow.Author.Rules.{rules}
 use Rattle.frame_table.specs.Table.{allowed}
 use Rattle.frame_table.proofs.table.is_capital_or_digit.Goals as goal
 

@@ -1,6 +1,5 @@
 -- `absent_writable` meets its contract. Assumes nothing.
 use mathlib.Core.Path.{sym, ◌∙◌}
-use borrow.Author.Rules.{rules}
 use borrow.Author.Tests.{eq-eqb, ne_eqb}
 use Rattle.frame_writer.proofs.Numbers.{absent-fits}
 use Rattle.frame_writer.proofs.writer.absent_writable.Goals as goal

@@ -1,7 +1,6 @@
 -- `content` meets its contract. Assumes nothing.
 use mathlib.Core.Path.{sym, ◌∙◌}
 use native.Mathlib.Omega.{arith}
-use borrow.Author.Rules.{rules}
 use Prim.Native.Nat.{◌≤◌}
 use borrow.Author.Tests.{eq-eqb, ne_eqb}
 use Rattle.frame_table.specs.Table.{width}

@@ -1,7 +1,6 @@
 -- `field_writable` meets its contract. Assumes nothing.
 use mathlib.Core.Path.{sym, ◌∙◌}
-use borrow.Author.Rules.{rules}
-use borrow.Author.Tests.{not-true, not-false, ne_eqb}
+use borrow.Author.Tests.{ne_eqb}
 use Rattle.frame_writer.proofs.writer.field_writable.Goals as goal
 
 pub returns-then-not-has : goal.returns-then-not-has

@@ -1,16 +1,14 @@
 -- `frame_length` meets its contract. The loop's invariant: the fields passed are writable, `length` their bytes. Assumes nothing.
 use mathlib.Core.Path.{◌≡◌, refl, sym, ap, ◌∙◌}
 use mathlib.Core.Bool.{true, false}
-use Prim.Native.Nat.{◌+◌, ◌-◌, ◌*◌, ◌≤◌}
 use native.Mathlib.Omega.{arith}
 use lib.ListN.{length, get_or, length-append}
 use borrow.Author.Rules.{rules}
-use borrow.Author.Tests.{not-true, not-false}
 use Rattle.frame_table.specs.Table.{tag_count}
 use Rattle.frame_row.specs.Row.{piece}
 use Rattle.frame_writer.specs.Writer.{content_of, frame_of, field_writable, fields_writable}
 use Rattle.frame_row.proofs.Contents.{piece-bound}
-use Rattle.frame_writer.proofs.Loops.{rest_from, content-most, data-most, join_step, join-end, writable-step, writable-end}
+use Rattle.frame_writer.proofs.Loops.{content-most, data-most, join_step, join-end, writable-step, writable-end}
 use Rattle.frame_writer.proofs.writer.frame_length.Goals as goal
 
 pub loop-tag-init : goal.loop-tag-init

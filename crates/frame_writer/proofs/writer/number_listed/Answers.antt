@@ -3,7 +3,6 @@
 use Prim.Native.Nat.{◌+◌, ◌*◌, ◌^◌}
 use mathlib.Core.Path.{◌≡◌, sym, ap, ◌∙◌}
 use native.Mathlib.Omega.{arith}
-use borrow.Author.Rules.{rules}
 use Rattle.octets.proofs.Numbers.{number-bytes_of}
 use Rattle.frame_table.specs.Table.{width, in_range}
 use Rattle.frame_table.proofs.Values.{width_narrow, range-narrow}

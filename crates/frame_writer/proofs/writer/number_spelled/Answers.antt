@@ -1,6 +1,5 @@
 -- `number_spelled` meets its contract: the last bytes of the sixteen are the number's own. Assumes nothing.
 use mathlib.Core.Path.{◌≡◌, ap, ◌∙◌}
-use borrow.Author.Rules.{rules}
 use lib.ListN.{length, length-append}
 use Rattle.octets.proofs.Numbers.{length-bytes_of, last-bytes}
 use Rattle.frame_writer.proofs.writer.number_spelled.Goals as goal

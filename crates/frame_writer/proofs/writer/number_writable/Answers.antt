@@ -1,7 +1,7 @@
 -- `number_writable` meets its contract. Assumes nothing.
 use mathlib.Core.Path.{sym, ◌∙◌}
 use borrow.Author.Rules.{rules}
-use borrow.Author.Tests.{not-true, not-false, ltb-true}
+use borrow.Author.Tests.{ltb-true}
 use Rattle.frame_writer.proofs.Numbers.{number_fits, number-over}
 use Rattle.frame_writer.proofs.writer.number_writable.Goals as goal
 

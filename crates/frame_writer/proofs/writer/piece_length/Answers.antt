@@ -1,8 +1,7 @@
 -- `piece_length` meets its contract. Assumes nothing.
 use mathlib.Core.Path.{sym, ◌∙◌}
 use native.Mathlib.Omega.{arith}
-use borrow.Author.Rules.{rules}
-use borrow.Author.Tests.{eq-eqb, ne_eqb, not-true, not-false}
+use borrow.Author.Tests.{eq-eqb, ne_eqb}
 use Rattle.frame_table.specs.Table.{width}
 use Rattle.octets.proofs.Numbers.{length-bytes_of}
 use Rattle.frame_table.proofs.Values.{width_narrow}

@@ -5,8 +5,6 @@ use Prim.Native.Nat.{ℕ, ◌+◌}
 use native.Mathlib.Nat.{add-zero}
 use native.Mathlib.Omega.{arith}
 use lib.ListN.{length}
-use borrow.Author.Rules.{rules}
-use borrow.Author.Tests.{not-true}
 use Rattle.octets.specs.Bytes.{field_bytes, overwrite}
 use Rattle.frame_row.specs.Row.{piece}
 use Rattle.frame_writer.specs.Writer.{content_at}

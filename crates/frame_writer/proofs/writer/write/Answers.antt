@@ -4,7 +4,7 @@ use mathlib.Core.Bool.{true}
 use native.Mathlib.Omega.{arith}
 use lib.ListN.{length}
 use borrow.Author.Rules.{rules}
-use borrow.Author.Tests.{lt-leb, not-true, not-false}
+use borrow.Author.Tests.{lt-leb}
 use Rattle.frame_table.specs.Table.{is_form}
 use Rattle.frame_writer.specs.Writer.{frame_of, writable, accepted, write_answer, write_buffer, write_number}
 use Rattle.frame_writer.proofs.Loops.{writable-over, writable-under}

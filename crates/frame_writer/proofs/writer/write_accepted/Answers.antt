@@ -1,13 +1,13 @@
 -- What is accepted is within the limit and has room, so each field has; the loop's invariant is `Writing`. Assumes nothing.
-use Prim.Native.Nat.{◌-◌, ◌≤◌}
+use Prim.Native.Nat.{◌≤◌}
 use mathlib.Core.Path.{sym}
 use native.Mathlib.Omega.{arith}
 use lib.ListN.{length}
 use borrow.Author.Rules.{rules}
-use Rattle.frame_table.specs.Table.{tag_count, frame_limit}
+use Rattle.frame_table.specs.Table.{frame_limit}
 use Rattle.frame_writer.specs.Writer.{content_of, frame_of}
 use Rattle.frame_row.proofs.Contents.{piece-bound}
-use Rattle.frame_writer.proofs.Loops.{Writing, writing_start, writing-left, writing_step, writing-end}
+use Rattle.frame_writer.proofs.Loops.{writing_start, writing-left, writing_step, writing-end}
 use Rattle.frame_writer.proofs.Written.{writable-limit, accepted-writable}
 use Rattle.frame_writer.proofs.writer.write_accepted.Goals as goal
 

@@ -6,7 +6,6 @@ use borrow.Author.Tests.{eq-eqb, ne_eqb}
 use Rattle.bank_state.specs.Limits.{store_bytes}
 use Rattle.image_conditions.specs.Conditions.{admitted}
 use Rattle.image_records.specs.Layout.{number_count}
-use borrow.Author.Rules.{rules}
 use Rattle.image_conditions.proofs.conditions.admitted.Goals as goal
 
 pub returns-then-numbers-ne-NUMBER_COUNT : goal.returns-then-numbers-ne-NUMBER_COUNT

@@ -1,6 +1,5 @@
 -- `count_conditions` meets its contract: what each call in it says, put together. Assumes nothing.
 use Rattle.image_conditions.specs.Conditions.{count_conditions}
-use borrow.Author.Rules.{rules}
 use Rattle.image_conditions.proofs.conditions.count_conditions.Goals as goal
 
 pub returns : goal.returns

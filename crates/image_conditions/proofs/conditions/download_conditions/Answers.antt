@@ -1,6 +1,5 @@
 -- `download_conditions` meets its contract: what each call in it says, put together. Assumes nothing.
 use Rattle.image_conditions.specs.Conditions.{download_conditions}
-use borrow.Author.Rules.{rules}
 use Rattle.image_conditions.proofs.conditions.download_conditions.Goals as goal
 
 pub returns : goal.returns

@@ -1,6 +1,5 @@
 -- `journal_conditions` meets its contract: what each call in it says, put together. Assumes nothing.
 use Rattle.image_conditions.specs.Conditions.{journal_conditions}
-use borrow.Author.Rules.{rules}
 use Rattle.image_conditions.proofs.conditions.journal_conditions.Goals as goal
 
 pub returns : goal.returns

@@ -1,6 +1,5 @@
 -- `open_conditions` meets its contract: what each call in it says, put together. Assumes nothing.
 use Rattle.image_conditions.specs.Conditions.{open_conditions}
-use borrow.Author.Rules.{rules}
 use Rattle.image_conditions.proofs.conditions.open_conditions.Goals as goal
 
 pub returns : goal.returns

@@ -1,6 +1,5 @@
 -- `series_conditions` meets its contract: what each call in it says, put together. Assumes nothing.
 use Rattle.image_conditions.specs.Conditions.{series_conditions}
-use borrow.Author.Rules.{rules}
 use Rattle.image_conditions.proofs.conditions.series_conditions.Goals as goal
 
 pub returns : goal.returns

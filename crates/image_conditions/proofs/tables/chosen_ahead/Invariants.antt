@@ -1,13 +1,9 @@
 -- `chosen_ahead` meets its contract. The loop's invariant: the count so far. Assumes nothing.
 use Prim.Native.Nat.{◌-◌, ◌≤◌}
-use mathlib.Core.Path.{◌≡◌, sym, ap, ◌∙◌}
-use mathlib.Core.Bool.{Bool, cond}
-use native.Mathlib.Omega.{arith}
+use mathlib.Core.Path.{◌≡◌}
 use Rattle.bank_state.specs.Limits.{place_count}
 use Rattle.image_records.specs.Shapes.{count}
-use Rattle.image_conditions.specs.Conditions.{is_ahead, chosen_ahead}
-use Rattle.image_records.proofs.Shapes.{count_none, count_next}
-use borrow.Author.Rules.{rules}
+use Rattle.image_conditions.specs.Conditions.{is_ahead}
 use Rattle.image_conditions.proofs.tables.chosen_ahead.Given as goal
 
 abbrev pub invariant-loop-i : goal.invariant-loop-i

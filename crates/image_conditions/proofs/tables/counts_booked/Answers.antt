@@ -1,6 +1,5 @@
 -- `counts_booked` meets its contract: what each call in it says, put together. Assumes nothing.
 use Rattle.image_conditions.specs.Conditions.{counts_booked}
-use borrow.Author.Rules.{rules}
 use Rattle.image_conditions.proofs.tables.counts_booked.Goals as goal
 
 pub returns : goal.returns

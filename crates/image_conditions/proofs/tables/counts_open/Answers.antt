@@ -1,6 +1,5 @@
 -- `counts_open` meets its contract: what each call in it says, put together. Assumes nothing.
 use Rattle.image_conditions.specs.Conditions.{counts_open}
-use borrow.Author.Rules.{rules}
 use Rattle.image_conditions.proofs.tables.counts_open.Goals as goal
 
 pub returns : goal.returns

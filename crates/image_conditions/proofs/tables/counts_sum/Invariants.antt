@@ -1,16 +1,9 @@
 -- `counts_sum` meets its contract. The loop's invariant: the counts so far and what is left are the openings. Assumes
 -- nothing.
-use Prim.Native.Nat.{ℕ, ◌+◌, ◌-◌, ◌≤◌}
-use mathlib.Core.Bool.{Bool, true, false}
-use mathlib.Core.Path.{◌≡◌, refl, sym}
-use native.Mathlib.Omega.{arith}
-use lib.Dec.{eqb}
-use borrow.Author.Tests.{eqb-true, eqb-false, eq-eqb, ne_eqb}
+use Prim.Native.Nat.{◌+◌, ◌-◌, ◌≤◌}
+use mathlib.Core.Path.{◌≡◌}
 use Rattle.image_records.specs.Shapes.{total}
 use Rattle.image_records.specs.Layout.{openings, count_size, count_at}
-use Rattle.image_conditions.specs.Conditions.{counts_sum}
-use Rattle.image_records.proofs.Shapes.{total-none, total-next, total-more}
-use borrow.Author.Rules.{rules}
 use Rattle.image_conditions.proofs.tables.counts_sum.Given as goal
 
 abbrev pub invariant-loop-i : goal.invariant-loop-i

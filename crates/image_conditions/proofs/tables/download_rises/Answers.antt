@@ -7,7 +7,6 @@ use borrow.Author.Tests.{lt-ltb}
 use Rattle.image_conditions.specs.Conditions.{download_rises}
 use Rattle.image_records.specs.Layout.{download_at}
 use Rattle.image_records.specs.declared.layout.DownloadRecord.{DownloadRecord}
-use borrow.Author.Rules.{rules}
 use Rattle.image_conditions.proofs.tables.download_rises.Goals as goal
 
 pub returns-then-i-eq0 : goal.returns-then-i-eq0

@@ -6,7 +6,6 @@ use Rattle.image_records.specs.Records.{download_holds}
 use Rattle.image_conditions.specs.Conditions.{download_test}
 use Rattle.image_records.specs.Layout.{clock, openings, file_of, download_at}
 use Rattle.image_records.specs.declared.layout.DownloadRecord.{DownloadRecord}
-use borrow.Author.Rules.{rules}
 use Rattle.image_conditions.proofs.tables.download_test.Goals as goal
 
 pub returns : goal.returns

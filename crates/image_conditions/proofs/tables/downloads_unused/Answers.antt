@@ -8,7 +8,6 @@ use Rattle.image_conditions.specs.Conditions.{downloads_unused}
 use Rattle.image_records.proofs.Shapes.{up-to-le}
 use Rattle.bank_state.specs.Limits.{place_count}
 use Rattle.image_records.specs.Layout.{download_count_at, downloads_at, download_width}
-use borrow.Author.Rules.{rules}
 use Rattle.image_conditions.proofs.tables.downloads_unused.Goals as goal
 
 pub unused-requires : goal.unused-requires

@@ -4,7 +4,6 @@ use mathlib.Core.Path.{ap, ◌∙◌}
 use lib.Dec.{leb}
 use Rattle.image_conditions.specs.Conditions.{signers_in_all, events_fit}
 use Rattle.image_records.specs.Layout.{events, openings}
-use borrow.Author.Rules.{rules}
 use Rattle.image_conditions.proofs.tables.events_fit.Goals as goal
 
 pub returns : goal.returns

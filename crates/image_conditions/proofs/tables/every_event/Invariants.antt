@@ -1,11 +1,8 @@
 -- `every_event` meets its contract. The loop's invariant: the tests so far. Assumes nothing.
 use Prim.Native.Nat.{◌-◌, ◌≤◌}
-use mathlib.Core.Path.{◌≡◌, sym, ap, ◌∙◌}
-use native.Mathlib.Omega.{arith}
+use mathlib.Core.Path.{◌≡◌}
 use Rattle.image_records.specs.Shapes.{every}
-use Rattle.image_conditions.specs.Conditions.{event_test, every_event}
-use Rattle.image_records.proofs.Shapes.{every-none, every-next}
-use borrow.Author.Rules.{rules}
+use Rattle.image_conditions.specs.Conditions.{event_test}
 use Rattle.image_conditions.proofs.tables.every_event.Given as goal
 
 abbrev pub invariant-loop-i : goal.invariant-loop-i

@@ -1,12 +1,9 @@
 -- `every_mailbox` meets its contract. The loop's invariant: the tests so far. Assumes nothing.
 use Prim.Native.Nat.{◌-◌, ◌≤◌}
-use mathlib.Core.Path.{◌≡◌, sym, ap, ◌∙◌}
-use native.Mathlib.Omega.{arith}
+use mathlib.Core.Path.{◌≡◌}
 use Rattle.bank_state.specs.Limits.{place_count}
 use Rattle.image_records.specs.Shapes.{every}
-use Rattle.image_conditions.specs.Conditions.{every_mailbox, mailbox_test}
-use Rattle.image_records.proofs.Shapes.{every-none, every-next}
-use borrow.Author.Rules.{rules}
+use Rattle.image_conditions.specs.Conditions.{mailbox_test}
 use Rattle.image_conditions.proofs.tables.every_mailbox.Given as goal
 
 abbrev pub invariant-loop-i : goal.invariant-loop-i

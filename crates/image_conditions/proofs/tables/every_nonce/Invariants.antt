@@ -1,14 +1,8 @@
 -- `every_nonce` meets its contract. The loop's invariant: the tests so far. Assumes nothing.
 use Prim.Native.Nat.{◌-◌, ◌≤◌}
-use mathlib.Core.Path.{◌≡◌, sym, ap, ◌∙◌}
-use native.Mathlib.Omega.{arith}
-use lib.ListN.{get_or}
+use mathlib.Core.Path.{◌≡◌}
 use Rattle.image_records.specs.Shapes.{every}
-use Rattle.image_conditions.specs.Conditions.{every_nonce, nonce_test}
-use Rattle.image_records.proofs.Shapes.{every-none, every-next, up-to-le}
-use Rattle.bank_state.specs.Limits.{nonce_count}
-use Rattle.image_records.specs.Layout.{nonce_count_at}
-use borrow.Author.Rules.{rules}
+use Rattle.image_conditions.specs.Conditions.{nonce_test}
 use Rattle.image_conditions.proofs.tables.every_nonce.Given as goal
 
 abbrev pub invariant-loop-i : goal.invariant-loop-i

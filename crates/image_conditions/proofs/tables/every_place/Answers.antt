@@ -1,5 +1,4 @@
 -- `every_place` meets its contract. The loop's invariant: the tests so far. Assumes nothing.
-use Prim.Native.Nat.{◌-◌, ◌≤◌}
 use mathlib.Core.Path.{◌≡◌, sym, ap, ◌∙◌}
 use native.Mathlib.Omega.{arith}
 use Rattle.bank_state.specs.Limits.{place_count}
@@ -16,8 +15,7 @@ loop-i-init c =
 
 pub loop-i-preserved : goal.loop-i-preserved
 loop-i-preserved c =
-    let at-args = c.args in
-    (
+    let at-args = c.args in (
       search rules,
       c.both-ok.ensures
           ∙ every-next (place_test at-args.numbers.now at-args.orders.now)

@@ -6,7 +6,6 @@ use lib.Dec.{ltb, leb}
 use Rattle.image_records.specs.Layout.{counter_of}
 use Rattle.image_records.specs.declared.layout.PlaceRecord.{PlaceRecord}
 use Rattle.image_conditions.specs.Conditions.{is_ahead}
-use borrow.Author.Rules.{rules}
 use Rattle.image_conditions.proofs.tables.is_ahead.Goals as goal
 
 pub returns : goal.returns

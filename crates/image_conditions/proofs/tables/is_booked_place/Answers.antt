@@ -3,7 +3,6 @@ use mathlib.Core.Path.{ap}
 use lib.Dec.{eqb}
 use Rattle.image_conditions.specs.Conditions.{is_booked_place}
 use Rattle.image_records.specs.declared.layout.PlaceRecord.{PlaceRecord}
-use borrow.Author.Rules.{rules}
 use Rattle.image_conditions.proofs.tables.is_booked_place.Goals as goal
 
 pub returns : goal.returns

@@ -4,7 +4,6 @@ use mathlib.Core.Bool.{◌&&◌}
 use lib.Dec.{eqb}
 use Rattle.image_conditions.specs.Conditions.{is_open_of}
 use Rattle.image_records.specs.declared.layout.Slot.{Slot}
-use borrow.Author.Rules.{rules}
 use Rattle.image_conditions.proofs.tables.is_open_of.Goals as goal
 
 pub returns : goal.returns

@@ -3,7 +3,6 @@ use mathlib.Core.Path.{ap}
 use lib.Dec.{eqb}
 use Rattle.image_conditions.specs.Conditions.{is_open_slot}
 use Rattle.image_records.specs.declared.layout.Slot.{Slot}
-use borrow.Author.Rules.{rules}
 use Rattle.image_conditions.proofs.tables.is_open_slot.Goals as goal
 
 pub returns : goal.returns

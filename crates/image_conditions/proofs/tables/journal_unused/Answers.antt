@@ -8,7 +8,6 @@ use Rattle.image_conditions.specs.Conditions.{journal_unused}
 use Rattle.image_records.proofs.Shapes.{up-to-le}
 use Rattle.journal.specs.Events.{record_count}
 use Rattle.image_records.specs.Layout.{events_at, journal_at, event_width}
-use borrow.Author.Rules.{rules}
 use Rattle.image_conditions.proofs.tables.journal_unused.Goals as goal
 
 pub unused-requires : goal.unused-requires

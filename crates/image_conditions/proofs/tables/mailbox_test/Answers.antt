@@ -1,6 +1,5 @@
 -- `mailbox_test` meets its contract: what each call in it says, put together. Assumes nothing.
 use Rattle.image_conditions.specs.Conditions.{mailbox_test}
-use borrow.Author.Rules.{rules}
 use Rattle.image_conditions.proofs.tables.mailbox_test.Goals as goal
 
 pub returns : goal.returns

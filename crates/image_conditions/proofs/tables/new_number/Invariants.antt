@@ -1,12 +1,9 @@
 -- `new_number` meets its contract. The loop's invariant: the tests so far. Assumes nothing.
 use Prim.Native.Nat.{◌-◌, ◌≤◌}
-use mathlib.Core.Path.{◌≡◌, sym, ap, ◌∙◌}
+use mathlib.Core.Path.{◌≡◌}
 use mathlib.Core.Bool.{not}
-use native.Mathlib.Omega.{arith}
 use Rattle.image_records.specs.Shapes.{every}
 use Rattle.image_conditions.specs.Conditions.{same_number}
-use Rattle.image_records.proofs.Shapes.{every-none, every-next}
-use borrow.Author.Rules.{rules}
 use Rattle.image_conditions.proofs.tables.new_number.Given as goal
 
 abbrev pub invariant-loop-j : goal.invariant-loop-j

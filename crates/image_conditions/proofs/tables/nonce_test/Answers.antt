@@ -3,7 +3,6 @@ use mathlib.Core.Path.{ap, ◌∙◌}
 use Rattle.image_records.specs.Records.{nonce_time}
 use Rattle.image_conditions.specs.Conditions.{nonce_test}
 use Rattle.image_records.specs.Layout.{clock}
-use borrow.Author.Rules.{rules}
 use Rattle.image_conditions.proofs.tables.nonce_test.Goals as goal
 
 pub returns : goal.returns

@@ -1,15 +1,9 @@
 -- `nonces_distinct` meets its contract. The loop's invariant: the tests so far. Assumes nothing.
 use Prim.Native.Nat.{◌-◌, ◌≤◌}
-use mathlib.Core.Path.{◌≡◌, sym, ap, ◌∙◌}
+use mathlib.Core.Path.{◌≡◌}
 use mathlib.Core.Bool.{not}
-use native.Mathlib.Omega.{arith}
-use lib.ListN.{get_or}
-use Rattle.image_records.specs.Shapes.{every, distinct}
-use Rattle.image_conditions.specs.Conditions.{nonces_distinct, same_nonce}
-use Rattle.image_records.proofs.Shapes.{every-none, every-next, up-to-le}
-use Rattle.bank_state.specs.Limits.{nonce_count}
-use Rattle.image_records.specs.Layout.{nonce_count_at}
-use borrow.Author.Rules.{rules}
+use Rattle.image_records.specs.Shapes.{every}
+use Rattle.image_conditions.specs.Conditions.{same_nonce}
 use Rattle.image_conditions.proofs.tables.nonces_distinct.Given as goal
 
 abbrev pub invariant-loop-i : goal.invariant-loop-i

@@ -8,7 +8,6 @@ use Rattle.image_conditions.specs.Conditions.{nonces_unused}
 use Rattle.image_records.proofs.Shapes.{up-to-le}
 use Rattle.bank_state.specs.Limits.{nonce_count}
 use Rattle.image_records.specs.Layout.{nonce_count_at, nonces_at, nonce_width}
-use borrow.Author.Rules.{rules}
 use Rattle.image_conditions.proofs.tables.nonces_unused.Goals as goal
 
 pub unused-requires : goal.unused-requires

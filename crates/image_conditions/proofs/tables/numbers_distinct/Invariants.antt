@@ -1,12 +1,9 @@
 -- `numbers_distinct` meets its contract. The loop's invariant: the tests so far. Assumes nothing.
 use Prim.Native.Nat.{◌-◌, ◌≤◌}
-use mathlib.Core.Path.{◌≡◌, sym, ap, ◌∙◌}
+use mathlib.Core.Path.{◌≡◌}
 use mathlib.Core.Bool.{not}
-use native.Mathlib.Omega.{arith}
-use Rattle.image_records.specs.Shapes.{every, distinct}
-use Rattle.image_conditions.specs.Conditions.{numbers_distinct, same_number}
-use Rattle.image_records.proofs.Shapes.{every-none, every-next}
-use borrow.Author.Rules.{rules}
+use Rattle.image_records.specs.Shapes.{every}
+use Rattle.image_conditions.specs.Conditions.{same_number}
 use Rattle.image_conditions.proofs.tables.numbers_distinct.Given as goal
 
 abbrev pub invariant-loop-i : goal.invariant-loop-i

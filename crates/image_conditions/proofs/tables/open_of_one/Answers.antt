@@ -3,7 +3,6 @@ use Prim.Native.Nat.{ℕ}
 use mathlib.Core.Path.{ap}
 use lib.Dec.{leb}
 use Rattle.image_conditions.specs.Conditions.{open_of_one}
-use borrow.Author.Rules.{rules}
 use Rattle.image_conditions.proofs.tables.open_of_one.Goals as goal
 
 pub returns : goal.returns

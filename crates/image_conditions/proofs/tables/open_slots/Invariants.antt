@@ -1,12 +1,8 @@
 -- `open_slots` meets its contract. The loop's invariant: the count so far. Assumes nothing.
 use Prim.Native.Nat.{◌-◌, ◌≤◌}
-use mathlib.Core.Path.{◌≡◌, sym, ap, ◌∙◌}
-use mathlib.Core.Bool.{Bool, cond}
-use native.Mathlib.Omega.{arith}
+use mathlib.Core.Path.{◌≡◌}
 use Rattle.image_records.specs.Shapes.{count}
 use Rattle.image_conditions.specs.Conditions.{is_open_slot}
-use Rattle.image_records.proofs.Shapes.{count_none, count_next}
-use borrow.Author.Rules.{rules}
 use Rattle.image_conditions.proofs.tables.open_slots.Given as goal
 
 abbrev pub invariant-loop-i : goal.invariant-loop-i

@@ -1,13 +1,10 @@
 -- `orders_distinct` meets its contract. The loop's invariant: the tests so far. Assumes nothing.
 use Prim.Native.Nat.{◌-◌, ◌≤◌}
-use mathlib.Core.Path.{◌≡◌, sym, ap, ◌∙◌}
+use mathlib.Core.Path.{◌≡◌}
 use mathlib.Core.Bool.{not}
-use native.Mathlib.Omega.{arith}
 use Rattle.bank_state.specs.Limits.{place_count}
-use Rattle.image_records.specs.Shapes.{every, distinct}
-use Rattle.image_conditions.specs.Conditions.{orders_distinct, same_order}
-use Rattle.image_records.proofs.Shapes.{every-none, every-next}
-use borrow.Author.Rules.{rules}
+use Rattle.image_records.specs.Shapes.{every}
+use Rattle.image_conditions.specs.Conditions.{same_order}
 use Rattle.image_conditions.proofs.tables.orders_distinct.Given as goal
 
 abbrev pub invariant-loop-i : goal.invariant-loop-i

@@ -5,7 +5,6 @@ use lib.Dec.{eqb}
 use Rattle.image_conditions.specs.Conditions.{same_nonce}
 use Rattle.image_records.specs.Layout.{nonce_at}
 use Rattle.image_records.specs.declared.layout.NonceRecord.{NonceRecord}
-use borrow.Author.Rules.{rules}
 use Rattle.image_conditions.proofs.tables.other_nonce.Goals as goal
 
 pub returns : goal.returns

@@ -7,7 +7,6 @@ use Rattle.image_records.specs.Layout.{slot_at}
 use Rattle.image_conditions.specs.Conditions.{same_number}
 use Rattle.image_records.specs.Shapes.{all_of}
 use Rattle.image_records.specs.declared.layout.Slot.{Slot}
-use borrow.Author.Rules.{rules}
 use Rattle.image_conditions.proofs.tables.other_number.Goals as goal
 
 abbrev in_both : Slot → Slot → Bool

@@ -7,7 +7,6 @@ use Rattle.image_conditions.specs.Conditions.{same_order}
 use Rattle.image_records.specs.Shapes.{all_of}
 use Rattle.image_records.specs.Layout.{place_at}
 use Rattle.image_records.specs.declared.layout.PlaceRecord.{PlaceRecord}
-use borrow.Author.Rules.{rules}
 use Rattle.image_conditions.proofs.tables.other_order.Goals as goal
 
 abbrev in_both : PlaceRecord → PlaceRecord → Bool

@@ -1,6 +1,5 @@
 -- `place_bytes` meets its contract: what each call in it says, put together. Assumes nothing.
 use Rattle.image_conditions.specs.Conditions.{place_bytes}
-use borrow.Author.Rules.{rules}
 use Rattle.image_conditions.proofs.tables.place_bytes.Goals as goal
 
 pub returns : goal.returns

@@ -1,6 +1,5 @@
 -- `place_test` meets its contract: what each call in it says, put together. Assumes nothing.
 use Rattle.image_conditions.specs.Conditions.{place_test}
-use borrow.Author.Rules.{rules}
 use Rattle.image_conditions.proofs.tables.place_test.Goals as goal
 
 pub returns : goal.returns

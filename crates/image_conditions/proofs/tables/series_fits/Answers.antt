@@ -4,7 +4,6 @@ use mathlib.Core.Path.{ap}
 use lib.Dec.{leb}
 use Rattle.bank_state.specs.Limits.{series_limit}
 use Rattle.image_conditions.specs.Conditions.{series_fits}
-use borrow.Author.Rules.{rules}
 use Rattle.image_conditions.proofs.tables.series_fits.Goals as goal
 
 pub returns : goal.returns

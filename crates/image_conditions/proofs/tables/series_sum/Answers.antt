@@ -1,6 +1,6 @@
 -- `series_sum` meets its contract. The loop's invariant: the counters so far and what is left are the openings; the
 -- numbers chosen ahead are asked of what all counters leave. Assumes nothing.
-use Prim.Native.Nat.{ℕ, ◌+◌, ◌-◌, ◌≤◌}
+use Prim.Native.Nat.{ℕ, ◌+◌, ◌-◌}
 use mathlib.Core.Bool.{Bool, true, false}
 use mathlib.Core.Path.{◌≡◌, refl, sym, ap, ◌∙◌}
 use native.Mathlib.Omega.{arith}

@@ -1,17 +1,10 @@
 -- `series_sum` meets its contract. The loop's invariant: the counters so far and what is left are the openings; the
 -- numbers chosen ahead are asked of what all counters leave. Assumes nothing.
-use Prim.Native.Nat.{ℕ, ◌+◌, ◌-◌, ◌≤◌}
-use mathlib.Core.Bool.{Bool, true, false}
-use mathlib.Core.Path.{◌≡◌, refl, sym, ap, ◌∙◌}
-use native.Mathlib.Omega.{arith}
-use lib.Dec.{leb}
-use borrow.Author.Tests.{leb-true, leb-false, le-leb, lt-leb}
+use Prim.Native.Nat.{◌+◌, ◌-◌, ◌≤◌}
+use mathlib.Core.Path.{◌≡◌}
 use Rattle.bank_state.specs.Limits.{place_count}
 use Rattle.image_records.specs.Shapes.{total}
 use Rattle.image_records.specs.Layout.{openings, counter_at}
-use Rattle.image_conditions.specs.Conditions.{chosen_ahead, series_sum}
-use Rattle.image_records.proofs.Shapes.{total-none, total-next, total-more}
-use borrow.Author.Rules.{rules}
 use Rattle.image_conditions.proofs.tables.series_sum.Given as goal
 
 abbrev pub invariant-loop-i : goal.invariant-loop-i

@@ -6,7 +6,6 @@ use Rattle.signers.specs.Signers.{signer_count}
 use Rattle.signers.proofs.Counts.{count_most, count-low-byte}
 use Rattle.image_records.specs.declared.layout.PlaceRecord.{PlaceRecord}
 use Rattle.image_conditions.specs.Conditions.{signers_at}
-use borrow.Author.Rules.{rules}
 use Rattle.image_conditions.proofs.tables.signers_at.Goals as goal
 
 pub returns : goal.returns

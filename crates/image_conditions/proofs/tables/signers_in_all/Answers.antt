@@ -1,5 +1,4 @@
 -- `signers_in_all` meets its contract. The loop's invariant: the sum so far. Assumes nothing.
-use Prim.Native.Nat.{◌-◌, ◌*◌, ◌≤◌}
 use mathlib.Core.Path.{◌≡◌, sym, ap, ◌∙◌}
 use native.Mathlib.Omega.{arith}
 use Rattle.bank_state.specs.Limits.{place_count}

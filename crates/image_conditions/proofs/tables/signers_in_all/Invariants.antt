@@ -1,12 +1,9 @@
 -- `signers_in_all` meets its contract. The loop's invariant: the sum so far. Assumes nothing.
 use Prim.Native.Nat.{◌-◌, ◌*◌, ◌≤◌}
-use mathlib.Core.Path.{◌≡◌, sym, ap, ◌∙◌}
-use native.Mathlib.Omega.{arith}
+use mathlib.Core.Path.{◌≡◌}
 use Rattle.bank_state.specs.Limits.{place_count}
 use Rattle.image_records.specs.Shapes.{total}
-use Rattle.image_conditions.specs.Conditions.{signers_at, signers_in_all}
-use Rattle.image_records.proofs.Shapes.{total-none, total-next}
-use borrow.Author.Rules.{rules}
+use Rattle.image_conditions.specs.Conditions.{signers_at}
 use Rattle.image_conditions.proofs.tables.signers_in_all.Given as goal
 
 abbrev pub invariant-loop-i : goal.invariant-loop-i

@@ -4,7 +4,6 @@ use mathlib.Core.Path.{◌≡◌, ap, ◌∙◌}
 use native.Mathlib.Omega.{arith}
 use lib.ListN.{take, drop}
 use Rattle.image_records.specs.Shapes.{unused, all_zero}
-use borrow.Author.Rules.{rules}
 use Rattle.image_conditions.proofs.tables.unused.Goals as goal
 
 pub returns : goal.returns

@@ -7,7 +7,6 @@ use Rattle.message.specs.Limits.{file_bytes}
 use Rattle.image_conditions.specs.Conditions.{bytes_behind}
 use Rattle.image_records.proofs.Shapes.{up-to-le}
 use Rattle.image_records.specs.Shapes.{all_zero}
-use borrow.Author.Rules.{rules}
 use Rattle.image_conditions.proofs.tables.zero_behind.Goals as goal
 
 pub overflow_add-from : goal.overflow_add-from

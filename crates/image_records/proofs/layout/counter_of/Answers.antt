@@ -2,7 +2,6 @@
 use borrow.Author.Tests.{le-leb, lt-leb}
 use Rattle.message.specs.Limits.{subscribers}
 use Rattle.image_records.specs.Layout.{counter_of}
-use borrow.Author.Rules.{rules}
 use Rattle.image_records.proofs.layout.counter_of.Goals as goal
 
 pub returns-then-subscriber-lt1 : goal.returns-then-subscriber-lt1

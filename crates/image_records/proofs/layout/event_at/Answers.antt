@@ -1,7 +1,6 @@
 -- `event_at` meets its contract: each number is read from its place. Assumes nothing.
 use mathlib.Core.Path.{refl}
 use Rattle.image_records.specs.Layout.{event_at}
-use borrow.Author.Rules.{rules}
 use Rattle.image_records.proofs.layout.event_at.Goals as goal
 
 pub returns : goal.returns

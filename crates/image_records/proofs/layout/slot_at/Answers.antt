@@ -2,7 +2,6 @@
 use Prim.Native.Nat.{◌-◌}
 use borrow.Author.Tests.{lt-ltb, le-ltb}
 use Rattle.image_records.specs.Layout.{downloads, slot_at}
-use borrow.Author.Rules.{rules}
 use Rattle.image_records.proofs.layout.slot_at.Goals as goal
 
 pub returns-then-i-lt-PLACE_COUNT : goal.returns-then-i-lt-PLACE_COUNT

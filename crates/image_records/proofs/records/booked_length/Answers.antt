@@ -1,5 +1,4 @@
 -- `booked_length` meets its contract: what each call in it says, put together. Assumes nothing.
-use borrow.Author.Rules.{rules}
 use Rattle.image_records.proofs.records.booked_length.Goals as goal
 
 pub returns : goal.returns

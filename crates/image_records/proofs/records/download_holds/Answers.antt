@@ -1,5 +1,4 @@
 -- `download_holds` meets its contract: what each call in it says, put together. Assumes nothing.
-use borrow.Author.Rules.{rules}
 use Rattle.image_records.proofs.records.download_holds.Goals as goal
 
 pub returns : goal.returns

@@ -1,7 +1,6 @@
 -- `event_number` meets its contract: no more events are used than were entered. Assumes nothing.
 use native.Mathlib.Omega.{arith}
 use Rattle.image_records.proofs.Shapes.{up-to-le}
-use borrow.Author.Rules.{rules}
 use Rattle.image_records.proofs.records.event_number.Goals as goal
 
 pub overflow_sub-result : goal.overflow_sub-result

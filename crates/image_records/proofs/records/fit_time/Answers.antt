@@ -1,5 +1,4 @@
 -- `fit_time` meets its contract: what each call in it says, put together. Assumes nothing.
-use borrow.Author.Rules.{rules}
 use Rattle.image_records.proofs.records.fit_time.Goals as goal
 
 pub returns : goal.returns

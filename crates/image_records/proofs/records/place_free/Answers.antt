@@ -1,5 +1,4 @@
 -- `place_free` meets its contract: what each call in it says, put together. Assumes nothing.
-use borrow.Author.Rules.{rules}
 use Rattle.image_records.proofs.records.place_free.Goals as goal
 
 pub returns : goal.returns

@@ -1,5 +1,4 @@
 -- `place_holds` meets its contract: what each call in it says, put together. Assumes nothing.
-use borrow.Author.Rules.{rules}
 use Rattle.image_records.proofs.records.place_holds.Goals as goal
 
 pub returns : goal.returns

@@ -1,5 +1,4 @@
 -- `upload_segments` meets its contract: what each call in it says, put together. Assumes nothing.
-use borrow.Author.Rules.{rules}
 use Rattle.image_records.proofs.records.upload_segments.Goals as goal
 
 pub returns : goal.returns

@@ -6,7 +6,6 @@ use lib.Dec.{leb}
 use Rattle.octets.proofs.Tests.{leb-same}
 use Rattle.message.specs.Limits.{segment_bytes}
 use Rattle.message.specs.Segments.{segments_of}
-use borrow.Author.Rules.{rules}
 use Rattle.image_records.proofs.tests.at_most_segments.Goals as goal
 
 pub returns : goal.returns

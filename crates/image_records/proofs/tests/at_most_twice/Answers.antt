@@ -2,7 +2,6 @@
 use Prim.Native.Nat.{◌+◌, ◌*◌, ◌/◌, ◌%◌}
 use native.Mathlib.Omega.{arith}
 use Rattle.octets.proofs.Tests.{leb-same}
-use borrow.Author.Rules.{rules}
 use Rattle.image_records.proofs.tests.at_most_twice.Goals as goal
 
 pub returns : goal.returns

@@ -4,7 +4,6 @@ use mathlib.Core.Path.{sym, ◌∙◌}
 use native.Mathlib.Omega.{arith}
 use borrow.Author.Tests.{le-leb}
 use Rattle.octets.proofs.Tests.{leb-same}
-use borrow.Author.Rules.{rules}
 use Rattle.image_records.proofs.tests.at_most_twice_and.Goals as goal
 
 pub returns-then-s-a : goal.returns-then-s-a

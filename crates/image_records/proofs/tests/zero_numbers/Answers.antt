@@ -1,10 +1,8 @@
 -- `zero_numbers` meets its contract. The loop's invariant: the greatest so far is 0 exactly if all so far are. Assumes nothing.
-use Prim.Native.Nat.{◌-◌, ◌≤◌}
-use mathlib.Core.Path.{◌≡◌, sym, ap, ◌∙◌}
+use mathlib.Core.Path.{sym, ap, ◌∙◌}
 use native.Mathlib.Omega.{arith}
-use lib.ListN.{length, get_or, take}
+use lib.ListN.{get_or}
 use lib.Seq.{take_all}
-use lib.Dec.{eqb}
 use Rattle.image_records.specs.Shapes.{all_zero}
 use Rattle.image_records.proofs.Shapes.{all_zero-nil, zero-both, zeros-next}
 use borrow.Author.Rules.{rules}
@@ -16,8 +14,7 @@ loop-i-init c = (search rules, sym all_zero-nil)
 pub loop-i-preserved : goal.loop-i-preserved
 loop-i-preserved c =
     let at-args = c.args in
-    let s = at-args.s.now in
-    (
+    let s = at-args.s.now in (
       search rules,
       zeros-next s c.loop-i.i c.loop-i.most c.greater-most.result (omega arith) c.loop-i.invariant.1
           (zero-both c.loop-i.most (get_or s c.loop-i.i 0) c.greater-most.result c.greater-most.ensures.0 c.greater-most.ensures.1 c.greater-most.ensures.2),

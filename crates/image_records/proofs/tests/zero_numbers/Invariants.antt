@@ -1,13 +1,9 @@
 -- `zero_numbers` meets its contract. The loop's invariant: the greatest so far is 0 exactly if all so far are. Assumes nothing.
 use Prim.Native.Nat.{◌-◌, ◌≤◌}
-use mathlib.Core.Path.{◌≡◌, sym, ap, ◌∙◌}
-use native.Mathlib.Omega.{arith}
-use lib.ListN.{length, get_or, take}
-use lib.Seq.{take_all}
+use mathlib.Core.Path.{◌≡◌}
+use lib.ListN.{length, take}
 use lib.Dec.{eqb}
 use Rattle.image_records.specs.Shapes.{all_zero}
-use Rattle.image_records.proofs.Shapes.{all_zero-nil, zero-both, zeros-next}
-use borrow.Author.Rules.{rules}
 use Rattle.image_records.proofs.tests.zero_numbers.Given as goal
 
 abbrev pub invariant-loop-i : goal.invariant-loop-i

@@ -1,7 +1,6 @@
 -- Each decision as its function says; a message is held only where there is room.
 use mathlib.Core.Path.{sym, ◌∙◌}
 use native.Mathlib.Omega.{arith}
-use borrow.Author.Rules.{rules}
 use Rattle.line.specs.Line.{carried_out}
 use Rattle.line.proofs.Rows.{count-own}
 use Rattle.line.proofs.Courses.{room}

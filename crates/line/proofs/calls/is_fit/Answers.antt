@@ -1,7 +1,5 @@
 -- The tests go from top to bottom, as the definition's do.
 use mathlib.Core.Path.{sym, ◌∙◌}
-use borrow.Author.Rules.{rules}
-use borrow.Author.Tests.{not-true, not-false}
 use Rattle.octets.proofs.Tests.{tests}
 use Rattle.line.specs.Calls.{is_fit}
 use Rattle.line.proofs.calls.is_fit.Goals as goal

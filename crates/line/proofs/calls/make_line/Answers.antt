@@ -3,7 +3,6 @@ use mathlib.Core.Path.{◌≡◌, ap, ◌∙◌}
 use Prim.Native.Nat.{ℕ}
 use lib.ListN.{replicate}
 use borrow.Author.Tests.{eq-eqb, ne_eqb}
-use borrow.Author.Rules.{rules}
 use Rattle.octets.proofs.Tests.{tests}
 use Rattle.line.specs.Memory.{row_size, row_of}
 use Rattle.line.specs.Calls.{make_call}

@@ -2,8 +2,6 @@
 use mathlib.Core.Path.{sym, ap, ◌∙◌}
 use native.Mathlib.Omega.{arith}
 use lib.ListN.{length, length-set}
-use borrow.Author.Rules.{rules}
-use borrow.Author.Tests.{not-true, not-false}
 use Rattle.line.specs.Calls.{put_call}
 use Rattle.line.proofs.Carrying.{laid-after, line_after, decided-after, fit, put_is}
 use Rattle.line.proofs.calls.put_in.Goals as goal

@@ -1,12 +1,10 @@
 -- The lengths passed are within their limits; one that is not decides.
-use Prim.Native.Nat.{◌-◌, ◌≤◌}
-use mathlib.Core.Bool.{true}
 use mathlib.Core.Path.{◌≡◌, sym}
 use native.Mathlib.Omega.{arith}
 use borrow.Author.Rules.{rules}
 use borrow.Author.Tests.{le-leb, lt-leb}
 use Rattle.line.specs.Line.{most_held}
-use Rattle.line.specs.Memory.{all_below, is_length}
+use Rattle.line.specs.Memory.{is_length}
 use Rattle.line.proofs.Tests.{all_none, all-next, all-fails}
 use Rattle.line.proofs.memory.are_lengths.Goals as goal
 

@@ -1,13 +1,9 @@
 -- The lengths passed are within their limits; one that is not decides.
 use Prim.Native.Nat.{◌-◌, ◌≤◌}
 use mathlib.Core.Bool.{true}
-use mathlib.Core.Path.{◌≡◌, sym}
-use native.Mathlib.Omega.{arith}
-use borrow.Author.Rules.{rules}
-use borrow.Author.Tests.{le-leb, lt-leb}
+use mathlib.Core.Path.{◌≡◌}
 use Rattle.line.specs.Line.{most_held}
 use Rattle.line.specs.Memory.{all_below, is_length}
-use Rattle.line.proofs.Tests.{all_none, all-next, all-fails}
 use Rattle.line.proofs.memory.are_lengths.Given as goal
 
 abbrev pub invariant-loop-i : goal.invariant-loop-i

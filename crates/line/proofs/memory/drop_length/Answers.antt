@@ -1,9 +1,9 @@
 -- The lengths passed stand one place further up; those ahead are as they were.
-use Prim.Native.Nat.{ℕ, ◌+◌, ◌-◌, ◌≤◌}
+use Prim.Native.Nat.{ℕ, ◌+◌}
 use mathlib.Core.List.{List}
 use mathlib.Core.Path.{◌≡◌, refl, ap, ◌∙◌}
 use native.Mathlib.Omega.{arith}
-use lib.ListN.{length, get_or, drop, set, length-set}
+use lib.ListN.{get_or, drop, set, length-set}
 use lib.Seq.{paste, paste-zero}
 use borrow.Author.Rules.{rules}
 use Rattle.line.specs.Memory.{lengths_at}
@@ -15,8 +15,7 @@ loop-i-init c = (omega arith, paste-zero c.args.row.now lengths_at (drop (length
 
 pub loop-i-preserved : goal.loop-i-preserved
 loop-i-preserved c =
-    let row = c.args.row.now in
-    (
+    let row = c.args.row.now in (
       search rules,
       ap (λ (s : List ℕ). set s (lengths_at + c.loop-i.i) (get_or s (lengths_at + 1 + c.loop-i.i) 0)) c.loop-i.invariant.1
           ∙ moved-suc row lengths_at 1 c.loop-i.i (omega (arith, c.requires)) (lengths_at + c.loop-i.i) (lengths_at + 1 + c.loop-i.i) refl refl,

@@ -3,7 +3,6 @@ use mathlib.Core.Path.{ap, ◌∙◌}
 use Prim.Native.Nat.{ℕ}
 use native.Mathlib.Omega.{arith}
 use lib.ListN.{length-set}
-use borrow.Author.Rules.{rules}
 use Rattle.octets.specs.Bytes.{overwrite}
 use Rattle.line.proofs.Rows.{held_fits, row-hold, store-hold}
 use Rattle.line.proofs.memory.hold.Goals as goal

@@ -1,5 +1,4 @@
 -- The tests go from top to bottom, as the definition's do.
-use borrow.Author.Rules.{rules}
 use Rattle.octets.proofs.Tests.{tests}
 use Rattle.line.specs.Memory.{is_line}
 use Rattle.line.proofs.memory.is_line.Goals as goal

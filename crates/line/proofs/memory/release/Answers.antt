@@ -5,7 +5,6 @@ use Prim.Native.Nat.{ℕ, ◌-◌}
 use native.Mathlib.Omega.{arith}
 use lib.ListN.{length, get_or, take, drop, set}
 use lib.Seq.{length-take-le}
-use borrow.Author.Rules.{rules}
 use Rattle.octets.specs.Bytes.{overwrite}
 use Rattle.line.specs.Memory.{lengths_at, count_of}
 use Rattle.line.proofs.Rows.{held-within, first-within, oldest-is, row-release, store-release}

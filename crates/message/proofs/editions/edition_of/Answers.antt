@@ -1,5 +1,4 @@
 -- `edition_of` meets its contract: each arm knows the form. Assumes nothing.
-use borrow.Author.Rules.{rules}
 use Rattle.message.proofs.editions.edition_of.Goals as goal
 
 pub returns-in-NoForm : goal.returns-in-NoForm

@@ -1,7 +1,5 @@
 -- `is_order_number` meets its contract: the letter, then the three characters, as the definition's "and" has them.
 -- Assumes nothing.
-use borrow.Author.Rules.{rules}
-use borrow.Author.Tests.{not-true, not-false}
 use Rattle.message.specs.OrderNumbers.{is_order_number}
 use Rattle.message.proofs.order_numbers.is_order_number.Goals as goal
 

@@ -1,6 +1,5 @@
 -- `letter` meets its contract. Assumes nothing.
 use mathlib.Core.Path.{refl}
-use borrow.Author.Rules.{rules}
 use Rattle.message.specs.OrderNumbers.{letter}
 use Rattle.message.proofs.order_numbers.letter.Goals as goal
 

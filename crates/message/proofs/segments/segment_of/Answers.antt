@@ -1,7 +1,6 @@
 -- `segment_of` meets its contract. Assumes nothing.
 use mathlib.Core.Path.{ap, ◌∙◌}
 use lib.ListN.{take}
-use borrow.Author.Rules.{rules}
 use Rattle.message.specs.Limits.{segment_bytes}
 use Rattle.message.specs.Segments.{segment_of}
 use Rattle.message.proofs.segments.segment_of.Goals as goal

@@ -1,6 +1,5 @@
 -- `segments_of` meets its contract. Assumes nothing.
 use native.Mathlib.Omega.{arith}
-use borrow.Author.Rules.{rules}
 use Rattle.message.specs.Segments.{segments_of}
 use Rattle.message.proofs.segments.segments_of.Goals as goal
 

@@ -3,7 +3,6 @@ use Prim.Native.Nat.{◌-◌}
 use native.Mathlib.Omega.{arith}
 use lib.ListN.{length, drop, drop_of_length-le, length-drop}
 use lib.Seq.{drop-length, take-nil, take_all}
-use borrow.Author.Rules.{rules}
 use Rattle.octets.proofs.bytes.behind.Goals as goal
 
 pub returns-then-n-at : goal.returns-then-n-at

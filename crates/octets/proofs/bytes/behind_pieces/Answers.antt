@@ -2,7 +2,6 @@
 use native.Mathlib.Omega.{arith}
 use lib.ListN.{drop_of_length-le}
 use lib.Seq.{drop-length, take-nil}
-use borrow.Author.Rules.{rules}
 use Rattle.octets.proofs.Numbers.{pieces-fit, pieces-over}
 use Rattle.octets.proofs.bytes.behind_pieces.Goals as goal
 

@@ -4,7 +4,7 @@ use native.Mathlib.Numerals.{add-one}
 use Rattle.octets.proofs.Numbers.{overwrite-paste}
 use lib.ListN.{get_or, set, length-set}
 use mathlib.Core.Path.{◌≡◌, refl, sym, ap, ◌∙◌}
-use Prim.Native.Nat.{ℕ, ◌+◌, ◌≤◌, ◌-◌}
+use Prim.Native.Nat.{ℕ, ◌+◌}
 use native.Mathlib.Omega.{arith}
 use borrow.Author.Rules.{rules}
 use lib.ListN.{length}

@@ -1,14 +1,8 @@
 -- `copy` meets its contract. The loop's invariant: the first i bytes are copied. Assumes nothing.
-use mathlib.Core.List.{List}
-use native.Mathlib.Numerals.{add-one}
-use Rattle.octets.proofs.Numbers.{overwrite-paste}
-use lib.ListN.{get_or, set, length-set}
-use mathlib.Core.Path.{◌≡◌, refl, sym, ap, ◌∙◌}
-use Prim.Native.Nat.{ℕ, ◌+◌, ◌≤◌, ◌-◌}
-use native.Mathlib.Omega.{arith}
-use borrow.Author.Rules.{rules}
+use mathlib.Core.Path.{◌≡◌}
+use Prim.Native.Nat.{◌≤◌, ◌-◌}
 use lib.ListN.{length}
-use lib.Seq.{paste, paste-zero, paste-suc}
+use lib.Seq.{paste}
 use Rattle.octets.proofs.bytes.copy.Given as goal
 
 abbrev pub invariant-loop-i : goal.invariant-loop-i

@@ -1,11 +1,8 @@
 -- `leading` meets its contract. The loop's invariant: x is the number of the first i bytes. Assumes nothing.
-use mathlib.Core.Path.{◌≡◌, sym, ap, subst, ◌∙◌}
-use Prim.Native.Nat.{ℕ, ◌+◌, ◌≤◌, ◌<◌, ◌-◌, ◌*◌, ◌^◌}
-use native.Mathlib.Omega.{arith}
-use borrow.Author.Rules.{rules}
+use mathlib.Core.Path.{◌≡◌}
+use Prim.Native.Nat.{◌≤◌, ◌<◌, ◌-◌, ◌*◌, ◌^◌}
 use lib.ListN.{take}
 use Rattle.octets.specs.Bytes.{number}
-use Rattle.octets.proofs.Numbers.{number-nil, number-take, byte_more, seven-bytes}
 use Rattle.octets.proofs.bytes.leading.Given as goal
 
 abbrev pub invariant-loop-i : goal.invariant-loop-i

@@ -1,7 +1,6 @@
 -- `number` meets its contract: all bytes are the leading ones. Assumes nothing.
 use mathlib.Core.Path.{ap, ◌∙◌}
 use lib.Seq.{take-length}
-use borrow.Author.Rules.{rules}
 use Rattle.octets.specs.Bytes.{number}
 use Rattle.octets.proofs.bytes.number.Goals as goal
 

@@ -5,7 +5,6 @@ use Prim.Native.Nat.{ℕ, ◌+◌}
 use native.Mathlib.Omega.{arith}
 use Rattle.octets.specs.Bytes.{field_bytes, overwrite}
 use Rattle.octets.proofs.Numbers.{overwrite-overwrite}
-use borrow.Author.Rules.{rules}
 use Rattle.octets.proofs.bytes.put_field.Goals as goal
 
 pub returns : goal.returns

@@ -3,7 +3,6 @@ use mathlib.Core.Path.{ap}
 use Prim.Native.Nat.{ℕ}
 use lib.Dec.{leb}
 use Rattle.signers.specs.Signers.{releasing, is_released}
-use borrow.Author.Rules.{rules}
 use Rattle.signers.proofs.set.is_released.Goals as goal
 
 pub returns : goal.returns

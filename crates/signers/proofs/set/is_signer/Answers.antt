@@ -3,7 +3,6 @@ use mathlib.Core.Path.{sym, ◌∙◌}
 use native.Mathlib.Omega.{arith}
 use Rattle.signers.specs.Signers.{is_signer}
 use Rattle.signers.proofs.Laws.{bit_in}
-use borrow.Author.Rules.{rules}
 use Rattle.signers.proofs.set.is_signer.Goals as goal
 
 pub overflow_sub-result : goal.overflow_sub-result

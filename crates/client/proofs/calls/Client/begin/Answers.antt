@@ -1,6 +1,5 @@
 -- `begin` meets its contract. Assumes nothing.
 use Rattle.client.specs.Calls.{begin_call}
-use borrow.Author.Rules.{rules}
 use Rattle.client.proofs.calls.Client.begin.Goals as goal
 
 pub returns-in-Refuse : goal.returns-in-Refuse

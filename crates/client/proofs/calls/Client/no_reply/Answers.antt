@@ -5,7 +5,6 @@ use mathlib.Core.Path.{sym, ◌∙◌}
 use Rattle.client.specs.Calls.{no_reply_call}
 use Rattle.client_run.specs.Run.{lent_of}
 use Rattle.client_rules.proofs.Accepted.{admitted}
-use borrow.Author.Rules.{rules}
 use Rattle.client.proofs.calls.Client.no_reply.Goals as goal
 
 pub carry_out-requires : goal.carry_out-requires

@@ -4,7 +4,6 @@ use mathlib.Core.Path.{sym, ◌∙◌}
 use Rattle.client.specs.Calls.{reply_call}
 use Rattle.client_run.specs.Run.{lent_of}
 use Rattle.client_rules.proofs.Accepted.{admitted}
-use borrow.Author.Rules.{rules}
 use Rattle.client.proofs.calls.Client.reply.Goals as goal
 
 pub take_reply-requires : goal.take_reply-requires

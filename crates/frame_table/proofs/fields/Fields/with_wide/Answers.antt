@@ -1,5 +1,4 @@
 -- `with_wide` meets its contract. Assumes nothing.
-use borrow.Author.Rules.{rules}
 use Rattle.octets.proofs.Tests.{tests}
 use Rattle.frame_table.proofs.fields.Fields.with_wide.Goals as goal
 
