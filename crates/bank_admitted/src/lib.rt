@@ -1,1 +1,2 @@
 // What a session may hold, and that every call keeps it: definitions and proofs alone.
+#![tactic(auto)]

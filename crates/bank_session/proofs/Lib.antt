@@ -3,6 +3,4 @@ pub mod Rows
 pub mod Counts
 pub mod Session
 pub mod Laws
-pub mod Lent
-pub mod Time
 pub mod Host

@@ -1,0 +1,22 @@
+-- The arrays' lengths come by a lemma, since computing them writes the arrays out. Assumes nothing.
+use Prim.Native.Nat.{ℕ, ◌+◌, ◌*◌, ◌<◌}
+use mathlib.Core.Path.{◌≡◌, sym}
+use native.Mathlib.Omega.{arith}
+use lib.ListN.{length, replicate, length-replicate}
+use Rattle.bank_state.specs.Limits.{store_bytes, reply_room}
+use Rattle.bank_rows.specs.Layout.{state_size}
+use Rattle.frame_table.specs.Table.{width}
+use Rattle.marker_session.specs.Lines.{head_bytes}
+use Rattle.marker_session.specs.Marking.{lines_in}
+use Rattle.marker_session.specs.Session.{HasRoom, input_bytes, output_bytes}
+use Rattle.marker_session.proofs.Clock.{clocked-fresh}
+use Rattle.marker_session.proofs.Parts.{session-of}
+use Rattle.marker_session.proofs.session.session.Goals as goal
+
+zeros : (n : ℕ) → n ≡ length {A = ℕ} (replicate n 0)
+zeros n = sym (length-replicate {A = ℕ} n 0)
+
+has_room : (n m : ℕ) → n < head_bytes * (lines_in m + 1) → HasRoom (replicate n 0) (replicate m 0)
+unfolding width
+has_room n m h = omega (arith, zeros n, zeros m)
+
