@@ -16,7 +16,7 @@ WORD = re.compile(r"[^\s(){}.;,@\"«»\[\]\\:`'|]+")
 STRING = re.compile(r"\"(?:[^\"\\]|\\.)*\"", re.S)
 PART = re.compile(r"[a-z][A-Za-z0-9_]*\Z")
 DECLARED = re.compile(r"(?m)^\s*(?:abbrev |unfoldable |pub )*([^\s(){}.;,:]+) +:(?: |$)")
-USED = re.compile(r"(?m)^\s*use (Rattle\.\w+\.proofs\.[\w.+]+)\.\{([^}]*)\}")
+USED = re.compile(r"(?m)^\s*(?:pub )?use (Rattle\.\w+\.proofs\.[\w.+]+)\.\{([^}]*)\}")
 
 
 def files(top):

@@ -253,6 +253,7 @@ opening-at f d t k {e} {g} (sounds.more s r) (older {x = x} {h = h} p) own o =
         let l = opening-below p (ap opens own ∙ o) in
         absurd (omega arith)
     other false z = refl
+opening-at {A = A} f d t k {e = e} {g = g} sounds.none x7 own o = elim x7 [ ]
 
 upload-opening : (k : Action) → is_upload_opening k ≡ true → (n : ℕ) × (k ≡ action.Upload (up.Opened n))
 upload-opening (action.Upload (up.Opened n)) z = (n, refl)

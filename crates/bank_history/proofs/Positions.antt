@@ -48,6 +48,7 @@ use Rattle.bank_history.proofs.Entries.{ever-own, did-same}
 pub sound-at : {e : Exchange} {g h : List Exchange} → AllSound h → Stands e g h → Sound e g
 sound-at (more s r) newest = s
 sound-at (more s r) (older p) = sound-at r p
+sound-at {e = e} {g = g} none x3 = elim x3 [ ]
 
 -- what stands before an exchange of a history stands in it
 pub stands-behind : {e f : Exchange} {g k h : List Exchange} → Stands f k g → Stands e g h → Stands f k h
@@ -79,6 +80,7 @@ module _ (P : Exchange → Type 0) (value : Exchange → ℕ) (measure : List Ex
   below : {e : Exchange} {g h : List Exchange} → AllSound h → Stands e g h → P e → value e < measure h
   below {e} {g} (more s r) newest p = raises e g s p
   below (more {e = x} {h = h} y r) (older s) p = let a = below r s p in let b = grows x h y in omega arith
+  below {e = e} {g = g} none x5 p = elim x5 [ ]
 
   one-rising : {e f : Exchange} {g k h : List Exchange} → AllSound h → Stands e g h → Stands f k h → P e → P f → value e ≡ value f →
       (e ≡ f) × (g ≡ k)
@@ -88,6 +90,7 @@ module _ (P : Exchange → Type 0) (value : Exchange → ℕ) (measure : List Ex
   one-rising {e} {f} {g} {k} (more s r) (older a) newest p q z =
       absurd (let m = known f k s q in let l = below r a p in omega arith)
   one-rising (more s r) (older a) (older b) p q z = one-rising r a b p q z
+  one-rising {e = e} {f = f} {g = g} {k = k} none x11 _ p q z = elim x11 [ ]
 
 -- so where the value is the measure, which each such exchange raises
 one_place : (P : Exchange → Type 0) (value : Exchange → ℕ) (measure : List Exchange → ℕ) →
@@ -220,6 +223,7 @@ pub upload-below : {s n : ℕ} {e : Exchange} {g h : List Exchange} → AllSound
 upload-below {g = g} (more x r) newest p = let z = own-past p g in omega arith
 upload-below {s} (more {e = x} {h = h} y r) (older a) p =
     let b = upload-below r a p in let c = own-grows s x h y in omega arith
+upload-below {s = s} {n = n} {e = e} {g = g} none x5 p = elim x5 [ ]
 
 -- no number comes twice from it
 pub one-upload : (s n : ℕ) {e f : Exchange} {g k h : List Exchange} → AllSound h → Stands e g h → Stands f k h →
@@ -441,6 +445,7 @@ ended-unbooked t {h} r e b = let x = ever-stands is_ending t h e in let y = ever
         let z = subst (λ (v : Verdict). SoundVerdict v f k) (q.is ∙ ap (verdict.Of t) (booking-last q.action q.kind)) s.verdict in
         never (sym z.taking.upload.request.going ∙ stands-ever is_ending t a p)
     at (more s r) (older a) p (older b) q = at r a p b q
+    at {e = e} {f = f} {g = g} {k = k} none x9 p _ q = elim x9 [ ]
 
 -- ---- the payload
 

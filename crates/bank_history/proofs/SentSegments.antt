@@ -92,6 +92,7 @@ stands-times p t {e} {g} (older {x = x} {h = h} s) =
 pub sound-before : {e : Exchange} {g h : List Exchange} → AllSound h → Stands e g h → AllSound g
 sound-before (more s r) newest = r
 sound-before (more s r) (older p) = sound-before r p
+sound-before {e = e} {g = g} Rattle.bank_history.specs.Sound.none x3 = elim x3 [ ]
 
 pub sent-most : (t : Bits128) {n : ℕ} {h : List Exchange} → AllSound h → Sent t n h → n ≤ times is_delivery t h
 sent-most t {n} {h} sound s = by_form s.formed

@@ -84,7 +84,7 @@ pub use Rattle.bank_history.proofs.Positions.{
   received-payload,
 }
 -- what one call leaves, which calls change a mailbox, and that nothing gone or dropped comes back
-pub use Rattle.bank_history.proofs.Changes.{after_frame, late-frame, after-file, frame-mailbox, gone-stays}
+pub use Rattle.bank_history.proofs.Changes.{after_frame_lem, late-frame, after-file, frame-mailbox, gone-stays}
 pub use Rattle.bank_history.proofs.Dropped.{upload-dropped, download-dropped, dropped-stays}
 pub use Rattle.bank_history.proofs.Keeps.{after_holds, past-holds}
 -- demand 1: every frame gets its reply, which reads as its fields and its data; its exchange enters the history, whose bank is that of

@@ -1,1 +1,2 @@
 // The list of conditions is what a session may hold, so every call keeps it: definitions and proofs alone.
+#![tactic(auto)]

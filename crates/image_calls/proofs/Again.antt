@@ -1,6 +1,6 @@
 -- An image that a session was put away in gives back that session, into whatever memory it is taken up: so it gives the
 -- bank, the journal and the counts that the session was. Assumes nothing.
-use Rattle.core.specs.Prelude.{◌≡◌, ℕ, Bool, true, false, cond, ◌&&◌, leb, List, length, take}
+use Rattle.std.specs.Prelude.{◌≡◌, ℕ, Bool, true, false, cond, ◌&&◌, leb, List, length, take}
 use mathlib.Core.Path.{refl, ap}
 use native.Mathlib.Omega.{arith}
 use Rattle.octets.specs.Bytes.{overwrite}

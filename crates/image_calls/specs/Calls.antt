@@ -1,5 +1,5 @@
 -- Card 2, the two calls: putting a session away and taking it up, with every number, record and byte that they leave.
-use Rattle.core.specs.Prelude.{ℕ, Bool, cond, ◌&&◌, List, [], length, ◌==◌, nat_le, slice_index_or}
+use Rattle.std.specs.Prelude.{ℕ, Bool, cond, ◌&&◌, List, [], length, ◌==◌, nat_le, slice_index_or}
 use Rattle.number_table.specs.Table as numbers
 use Rattle.octets.specs.Bytes.{overwrite}
 use Rattle.journal.specs.Events.{record_count}

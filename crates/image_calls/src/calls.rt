@@ -1,6 +1,6 @@
 // The two calls: a session is put away as an image, and taken up from one. They alone have the journal's row; what they
 // call has its length, and its records by value.
-ghost use Rattle.core.specs.Prelude.{◌≡◌};
+ghost use Rattle.std.specs.Prelude.{◌≡◌};
 ghost use Rattle.bank_session.specs.Session.{session};
 ghost use Rattle.image_calls.specs.Calls.{put_away_of, put_away, take_up_of, take_up};
 

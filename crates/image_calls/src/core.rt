@@ -1,5 +1,5 @@
 // The two calls but for the journal's row, which one is told by value and the other hands back.
-ghost use Rattle.core.specs.Prelude.{◌≡◌, true, false, List, length};
+ghost use Rattle.std.specs.Prelude.{◌≡◌, true, false, List, length};
 ghost use Rattle.journal.specs.declared.event.Event.{Event};
 ghost use Rattle.journal.specs.Events.{record_count};
 ghost use Rattle.journal.specs.Row.{replaced};

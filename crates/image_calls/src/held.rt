@@ -1,5 +1,5 @@
 // The two calls with the journal's row by value, for programs.
-ghost use Rattle.core.specs.Prelude.{◌≡◌};
+ghost use Rattle.std.specs.Prelude.{◌≡◌};
 ghost use Rattle.bank_session.specs.Session.{session};
 ghost use Rattle.image_calls.specs.Calls.{put_away_of, put_away, take_up_of, take_up};
 

@@ -1,4 +1,5 @@
 // Putting a session away into a lent buffer, and taking it up again.
+#![tactic(auto)]
 pub mod calls;
 pub mod core;
 pub mod held;

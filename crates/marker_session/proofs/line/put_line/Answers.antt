@@ -47,3 +47,10 @@ put_byte-requires c =
     (left-3) in
     omega (arith, left-4)
 
+pub returns : goal.returns
+unfolding coded_line
+returns c =
+    rw (← c.is_answered.ensures)
+    (put_then c.put_column-a.ensures
+    (put_then c.put_answer-b.ensures
+    (put_then c.put_byte-c.ensures (put_then c.put_offset-d.ensures c.put_byte.ensures))))

@@ -1,9 +1,9 @@
 -- The loop keeps that the lines left lead to the same end, that the text so far is written, and that no more than the input is
 -- used. Assumes nothing.
-use Prim.Native.Nat.{◌≤◌, ◌<◌}
+use Prim.Native.Nat.{ℕ, ◌≤◌, ◌<◌}
 use mathlib.Core.Path.{◌≡◌, refl, sym, ◌∙◌}
 use mathlib.Core.List.{[]}
-use mathlib.Core.Bool.{true}
+use mathlib.Core.Bool.{Bool, true, ◌&&◌}
 use native.Mathlib.Omega.{arith}
 use lib.Dec.{ltb}
 use lib.ListN.{length, drop}
@@ -15,12 +15,14 @@ use Rattle.print.proofs.Texts.{put-length, put-nothing}
 use Rattle.marker_session.proofs.Lines.{Marking, marking-next, marking-end}
 use Rattle.marker_session.proofs.mark.mark.Goals as goal
 
+-- a turn: lines are left, and a call is ready
+turn : (b c : Bool) (left : ℕ) → b ≡ (ltb 0 left && c) → b ≡ true → (0 < left) × (c ≡ true)
+turn b c left e h =
+    let k = and-true (ltb 0 left) c (sym e ∙ h) in
+    (ltb-true 0 left k.0, k.1)
+
 pub loop-output-init : goal.loop-output-init
 loop-output-init c = (
-  refl,
-  refl,
-  refl,
-  refl,
   record { text = []; calls = refl; lines = refl; put = put-nothing _ _ (omega arith); room = omega arith },
   omega arith,
   c.requires,
@@ -28,66 +30,25 @@ loop-output-init c = (
 
 pub mark_call-m-requires : goal.mark_call-m-requires
 mark_call-m-requires c =
-    let ready : let a = c.args in
-    (0 < c.loop-output.left) × (is_ready c.loop-output.m.calls (drop c.loop-output.m.used a.input.now) ≡ true) = let a = c.args in
-    let e = sym c.is_ready.ensures ∙ c.loop-output-test.true in
-    let b = and-true (ltb 0 c.loop-output.left) (is_ready c.loop-output.m.calls (drop c.loop-output.m.used a.input.now)) e in
-    (ltb-true 0 c.loop-output.left b.0, b.1) in
     let inv = c.loop-output.invariant in
-    ((ready).1, omega (arith, put-length inv.4.put, inv.4.room, (ready).0), inv.6)
+    let t = turn _ _ _ c.is_ready.ensures c.loop-output-test.true in
+    (t.1, omega (arith, put-length inv.0.put, inv.0.room, t.0), inv.2)
 
 pub overflow_sub-left : goal.overflow_sub-left
-overflow_sub-left c =
-    let ready : let a = c.args in
-    (0 < c.loop-output.left) × (is_ready c.loop-output.m.calls (drop c.loop-output.m.used a.input.now) ≡ true) = let a = c.args in
-    let e = sym c.is_ready.ensures ∙ c.loop-output-test.true in
-    let b = and-true (ltb 0 c.loop-output.left) (is_ready c.loop-output.m.calls (drop c.loop-output.m.used a.input.now)) e in
-    (ltb-true 0 c.loop-output.left b.0, b.1) in
-    omega (arith, (ready).0)
+overflow_sub-left c = omega (arith, (turn _ _ _ c.is_ready.ensures c.loop-output-test.true).0)
 
 pub loop-output-smaller : goal.loop-output-smaller
-loop-output-smaller c =
-    let ready : let a = c.args in
-    (0 < c.loop-output.left) × (is_ready c.loop-output.m.calls (drop c.loop-output.m.used a.input.now) ≡ true) = let a = c.args in
-    let e = sym c.is_ready.ensures ∙ c.loop-output-test.true in
-    let b = and-true (ltb 0 c.loop-output.left) (is_ready c.loop-output.m.calls (drop c.loop-output.m.used a.input.now)) e in
-    (ltb-true 0 c.loop-output.left b.0, b.1) in
-    omega (arith, (ready).0)
+loop-output-smaller c = omega (arith, (turn _ _ _ c.is_ready.ensures c.loop-output-test.true).0)
 
 pub loop-output-preserved : goal.loop-output-preserved
 loop-output-preserved c =
-    let ready : let a = c.args in
-    (0 < c.loop-output.left) × (is_ready c.loop-output.m.calls (drop c.loop-output.m.used a.input.now) ≡ true) = let a = c.args in
-    let e = sym c.is_ready.ensures ∙ c.loop-output-test.true in
-    let b = and-true (ltb 0 c.loop-output.left) (is_ready c.loop-output.m.calls (drop c.loop-output.m.used a.input.now)) e in
-    (ltb-true 0 c.loop-output.left b.0, b.1) in
-    let inv = c.loop-output.invariant in
-    let turn = ready in (
-      c.rows-1.given ∙ inv.0,
-      c.orders-1.given ∙ inv.1,
-      c.mailboxes-1.given ∙ inv.2,
-      c.buffer-1.given ∙ inv.3,
-      marking-next _ _ _ _ _ _ _ _ inv.4 turn.0 turn.1 _ _ _ _ c.mark_call-m.ensures.0,
+    let t = turn _ _ _ c.is_ready.ensures c.loop-output-test.true in (
+      marking-next _ _ _ _ _ _ _ _ c.loop-output.invariant.0 t.0 t.1 _ _ _ _ c.mark_call-m.ensures.0,
       c.mark_call-m.ensures.1,
       c.mark_call-m.ensures.2,
     )
 
-pub shape_of-output : goal.shape_of-output
-shape_of-output c = put-length c.loop-output.invariant.4.put
-
-pub shape_of-rows : goal.shape_of-rows
-shape_of-rows c = c.loop-output.invariant.0
-
-pub shape_of-orders : goal.shape_of-orders
-shape_of-orders c = c.loop-output.invariant.1
-
-pub shape_of-mailboxes : goal.shape_of-mailboxes
-shape_of-mailboxes c = c.loop-output.invariant.2
-
-pub shape_of-buffer : goal.shape_of-buffer
-shape_of-buffer c = c.loop-output.invariant.3
-
 pub returns : goal.returns
 returns c =
     let inv = c.loop-output.invariant in
-    (marking-end _ _ _ _ _ _ _ _ inv.4 (sym c.is_ready.ensures ∙ c.loop-output-test.false), inv.5, inv.6)
+    (marking-end _ _ _ _ _ _ _ _ inv.0 (sym c.is_ready.ensures ∙ c.loop-output-test.false), inv.1, inv.2)

@@ -16,10 +16,9 @@ use Rattle.marker_session.proofs.Lines.{Marking, marking-next, marking-end}
 use Rattle.marker_session.proofs.mark.mark.Given as goal
 
 abbrev pub invariant-loop-output : goal.invariant-loop-output
-invariant-loop-output l =     (length l.rows ≡ length l.initial.rows) × (length l.orders ≡ length l.initial.orders) × (length l.mailboxes ≡ length l.initial.mailboxes)
-    × (length l.buffer ≡ length l.initial.buffer)
-    × Marking (marker_state l.calls l.input (lent l.initial.rows l.initial.orders l.initial.mailboxes) l.initial.buffer) l.input l.initial.output l.left l.m
-    (lent l.rows l.orders l.mailboxes) l.buffer l.output
+invariant-loop-output l =
+    Marking (marker_state l.calls l.input (lent l.initial.rows l.initial.orders l.initial.mailboxes) l.initial.buffer)
+    l.input l.initial.output l.left l.m (lent l.rows l.orders l.mailboxes) l.buffer l.output
     × (l.m.used ≤ length l.input) × Clocked l.rows
 
 abbrev pub decreases-loop-output : goal.decreases-loop-output

@@ -41,7 +41,7 @@ pub answer_request-step-requires : goal.answer_request-step-requires
 answer_request-step-requires c =
     let frame-bytes : Bytes c.frame_in-frame.result.now = let a = c.args in
     subst Bytes (sym (c.frame_in-frame.ensures ∙ ap frame_in c.behind-rest.ensures))
-    (bytes-in a.m.used a.input.now (λ i. (c.shared_slice_known-1.given i).fits)) in
+    (bytes-in a.m.used a.input.now ?) in
     (
       c.requires.2.sound,
       read-bounded _ (frame-bytes) c.read_whole_request-p.ensures.0,
@@ -59,7 +59,7 @@ put_line-written-requires c =
     (c.answer_request-step.ensures _ c.read_whole_request-p.ensures.0 c.data_at-bytes.ensures).0 in
     let frame-bytes : Bytes c.frame_in-frame.result.now = let a = c.args in
     subst Bytes (sym (c.frame_in-frame.ensures ∙ ap frame_in c.behind-rest.ensures))
-    (bytes-in a.m.used a.input.now (λ i. (c.shared_slice_known-1.given i).fits)) in
+    (bytes-in a.m.used a.input.now ?) in
     (
       omega (arith, (c).requires.1),
       omega (arith, c.clock.ensures, (clocked).in_time),
@@ -80,3 +80,32 @@ returns c =
     _ c.size_of.ensures _ (c.answer_request-step.ensures _ said c.data_at-bytes.ensures).0
     c.requires.2 _ c.clock.ensures _ said _ _ c.put_line-written.ensures in
     (done.0, omega (arith, c.size_of.ensures, end-within), done.1)
+
+pub size_of-requires : goal.size_of-requires
+size_of-requires c =
+    let ready : let a = c.args in Readied a.m.calls (drop a.m.used a.input.now) = readied _ _ c.requires.0 in
+    let head-fits : head_bytes ≤ length c.behind-rest.result.now = omega (arith, ap length c.behind-rest.ensures, (ready).head) in
+    omega (arith, head-fits)
+
+pub overflow_add-calls : goal.overflow_add-calls
+overflow_add-calls c =
+    let ready : let a = c.args in Readied a.m.calls (drop a.m.used a.input.now) = readied _ _ c.requires.0 in
+    omega (arith, ready.count)
+
+pub overflow_add-result-2 : goal.overflow_add-result-2
+unfolding width
+overflow_add-result-2 c =
+    let ready : let a = c.args in Readied a.m.calls (drop a.m.used a.input.now) = readied _ _ c.requires.0 in
+    let end_fits : c.args.m.used + (head_bytes + size_of c.behind-rest.result.now) < 2 ^ 64 = let a = c.args in
+    let r = ready in
+    omega (arith, ap size_of c.behind-rest.ensures, r.end, length-drop a.m.used a.input.now) in
+    omega (arith, c.size_of.ensures, end_fits)
+
+pub overflow_add-result : goal.overflow_add-result
+unfolding width
+overflow_add-result c =
+    let ready : let a = c.args in Readied a.m.calls (drop a.m.used a.input.now) = readied _ _ c.requires.0 in
+    let end_fits : c.args.m.used + (head_bytes + size_of c.behind-rest.result.now) < 2 ^ 64 = let a = c.args in
+    let r = ready in
+    omega (arith, ap size_of c.behind-rest.ensures, r.end, length-drop a.m.used a.input.now) in
+    omega (arith, end_fits)

@@ -20,3 +20,9 @@ has_room : (n m : ℕ) → n < head_bytes * (lines_in m + 1) → HasRoom (replic
 unfolding width
 has_room n m h = omega (arith, zeros n, zeros m)
 
+pub print_all-t-requires : goal.print_all-t-requires
+unfolding width
+print_all-t-requires g c = (has_room input_bytes output_bytes (omega arith), clocked-fresh)
+
+pub returns : goal.returns
+returns g c = session-of _ _ _ _ c.print_all-t.ensures

@@ -1,0 +1,18 @@
+-- The line's row and store are lent to the call, and both come back. Assumes nothing.
+use Prim.Native.Nat.{◌+◌, ◌*◌, ◌≤◌}
+use native.Mathlib.Omega.{arith}
+use lib.ListN.{length}
+use Rattle.line.specs.Memory.{row_size, store_bytes}
+use Rattle.unit_rows.proofs.LineParts.{row-lent, row_back, store-lent, store-back, put-parts}
+use borrow.Author.Rules.{rules}
+use Rattle.unit_rows.proofs.lines.put_at.Goals as goal
+
+pub returns : goal.returns
+returns c =
+    let a = c.args in
+    let fits : a.i * row_size + row_size ≤ length a.rows.now = omega (arith, c.requires) in
+    let within : a.i * store_bytes + store_bytes ≤ length a.stores.now = omega (arith, c.requires) in
+    put-parts a.rows.now a.stores.now a.i a.message.now a.buffer.now _ _ _ _ _ _ _ _
+    (row-lent a.rows.now a.i) (store-lent a.stores.now a.i)
+    (row_back a.rows.now _ a.i fits c.rows-1.given.0)
+    (store-back a.stores.now _ a.i within c.stores-1.given.0) c.put_in.ensures
