@@ -49,7 +49,7 @@ one_number (more a b c) (there m) (here j) e =
     absurd (let i = below c m in let h = ap (λ (z : Issue). exchange z.request) j in omega arith)
 one_number (more a b c) (there m) (there k) e = one_number c m k e
 
-older-below : {first n : ℕ} {l : List Issue} {y x : Issue} → Numbered first (n + 1) (y ∷ l) → In x l
+older-below : {n first : ℕ} {l : List Issue} {y x : Issue} → Numbered first (n + 1) (y ∷ l) → In x l
     → exchange x.request < n
 older-below (more e f k) m = let j = below k m in omega arith
 

@@ -128,6 +128,7 @@ pub listed : {f : history.Exchange} {g : List history.Exchange} {l : List Exchan
     (e : Exchange) × In e l × Entry e f
 listed (more {e = e} s r) newest = (e, here refl, s)
 listed (more s r) (older p) = let o = listed r p in (o.0, there o.1, o.2)
+listed {f = f} {g = g} none x4 = elim x4 [ ]
 
 -- ---- the bank's part
 

@@ -68,6 +68,7 @@ pub data AllProper : List Exchange → Type 0 where
 pub proper-at : {e : Exchange} {g h : List Exchange} → AllProper h → Stands e g h → Proper e
 proper-at (more s r) newest = s
 proper-at (more s r) (older p) = proper-at r p
+proper-at {e = e} {g = g} none x3 = elim x3 [ ]
 
 -- ---- the opening of a transaction
 
@@ -170,6 +171,7 @@ opening-at look empty {t} {f} {g} (sounds {e = x} {h = h} s r) (older p) o =
         cond b (look x) (at_opening look empty t h) ≡ look f
     at true e k = ap look (one-opened (sounds s r) newest (older p) (opened-so (did-action is_opening t x e)) o)
     at false e k = k
+opening-at {A = A} look empty {t = t} {f = f} {g = g} Rattle.bank_history.specs.Sound.none x5 o = elim x5 [ ]
 
 -- the edition of an opening is the one whose form it has
 pub opening-edition : (x : Edition) → form_edition (opening_form x) ≡ x
@@ -376,6 +378,7 @@ module _ {e : Exchange} {g h : List Exchange} (sound : AllSound h) (stands : Sta
 pub sound-before : {e : Exchange} {g h : List Exchange} → AllSound h → Stands e g h → AllSound g
 sound-before (sounds s r) newest = r
 sound-before (sounds s r) (older p) = sound-before r p
+sound-before {e = e} {g = g} Rattle.bank_history.specs.Sound.none x3 = elim x3 [ ]
 
 either-opening : (f : Action → Bool) → ((k : Action) → f k ≡ true → is_opening k ≡ true) → {t : Bits128} {e : Exchange} → ActionIn f t e →
     Opening t e

@@ -1,7 +1,6 @@
 -- `header` meets its contract. Assumes nothing.
 use Rattle.marker_session.specs.Lines.{header_room}
 use Rattle.print.proofs.Texts.{printed-put, printed-none}
-use borrow.Author.Rules.{rules}
 use Rattle.marker_session.proofs.line.header.Goals as goal
 
 pub returns-then-output-lt-HEADER_ROOM : goal.returns-then-output-lt-HEADER_ROOM

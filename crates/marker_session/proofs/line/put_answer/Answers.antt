@@ -1,6 +1,5 @@
 -- `put_answer` meets its contract. Assumes nothing.
 use Rattle.print.specs.Text.{digits_in, digit_count_to, digit_count, decimal}
-use borrow.Author.Rules.{rules}
 use Rattle.marker_session.proofs.line.put_answer.Goals as goal
 
 pub returns-in-Reply : goal.returns-in-Reply

@@ -1,18 +1,10 @@
 -- The loop keeps that the lines left lead to the same end, that the text so far is written, and that no more than the input is
 -- used. Assumes nothing.
-use Prim.Native.Nat.{◌≤◌, ◌<◌}
-use mathlib.Core.Path.{◌≡◌, refl, sym, ◌∙◌}
-use mathlib.Core.List.{[]}
-use mathlib.Core.Bool.{true}
-use native.Mathlib.Omega.{arith}
-use lib.Dec.{ltb}
-use lib.ListN.{length, drop}
-use borrow.Author.Tests.{ltb-true}
-use Rattle.octets.proofs.Tests.{and-true}
-use Rattle.marker_session.specs.Marking.{is_ready, marker_state, Clocked}
+use Prim.Native.Nat.{◌≤◌}
+use lib.ListN.{length}
+use Rattle.marker_session.specs.Marking.{marker_state, Clocked}
 use Rattle.bank_steps.specs.Lent.{lent}
-use Rattle.print.proofs.Texts.{put-length, put-nothing}
-use Rattle.marker_session.proofs.Lines.{Marking, marking-next, marking-end}
+use Rattle.marker_session.proofs.Lines.{Marking}
 use Rattle.marker_session.proofs.mark.mark.Given as goal
 
 abbrev pub invariant-loop-output : goal.invariant-loop-output

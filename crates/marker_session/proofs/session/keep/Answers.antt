@@ -1,9 +1,8 @@
 -- `keep` meets its contract. The loop keeps that the first n bytes are moved. Assumes nothing.
-use Prim.Native.Nat.{◌+◌, ◌-◌, ◌≤◌}
-use mathlib.Core.Path.{◌≡◌, refl, ◌∙◌}
+use mathlib.Core.Path.{refl, ◌∙◌}
 use native.Mathlib.Omega.{arith}
-use lib.ListN.{length, take, drop, length-set}
-use lib.Seq.{paste, paste-zero}
+use lib.ListN.{take, drop, length-set}
+use lib.Seq.{paste-zero}
 use borrow.Author.Rules.{rules}
 use Rattle.marker_session.proofs.Kept.{kept_step, kept-end}
 use Rattle.marker_session.proofs.session.keep.Goals as goal

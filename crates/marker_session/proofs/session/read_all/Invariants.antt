@@ -1,6 +1,4 @@
 -- The loop keeps what was read so far; the measure is the number of reads that may follow. Assumes nothing.
-use mathlib.Core.Path.{◌≡◌}
-use lib.ListN.{length}
 use Rattle.bank_steps.specs.Lent.{lent}
 use Rattle.marker_session.specs.Marking.{Clocked}
 use Rattle.marker_session.specs.Session.{ReadFrom, started_with}

@@ -3,8 +3,6 @@ use Prim.Native.Nat.{ℕ, ◌+◌, ◌*◌, ◌<◌}
 use mathlib.Core.Path.{◌≡◌, sym}
 use native.Mathlib.Omega.{arith}
 use lib.ListN.{length, replicate, length-replicate}
-use Rattle.bank_state.specs.Limits.{store_bytes, reply_room}
-use Rattle.bank_rows.specs.Layout.{state_size}
 use Rattle.frame_table.specs.Table.{width}
 use Rattle.marker_session.specs.Lines.{head_bytes}
 use Rattle.marker_session.specs.Marking.{lines_in}
