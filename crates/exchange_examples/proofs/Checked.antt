@@ -87,7 +87,7 @@ some_in {A} f (x ∷ l) h = at (f x) refl (some_in f l)
     at true e rest = (x, here refl, e)
     at false e rest = let o = rest (or-true (f x) (some f l) e h) in (o.0, there o.1, o.2)
 
-every_in : {A : Type 0} (f : A → Bool) {l : List A} → every f l ≡ true → {x : A} → In x l → f x ≡ true
+every_in : {A : Type 0} (f : A → Bool) {x : A} {l : List A} → every f l ≡ true → In x l → f x ≡ true
 every_in f h (here {x = y} {xs = l} e) = ap f e ∙ (and-true (f y) (every f l) h).0
 every_in f h (there {x = y} {xs = l} m) = every_in f (and-true (f y) (every f l) h).1 m
 

@@ -221,11 +221,11 @@ meets ms {P} r h p =
 -- one whose run i is in turn, opened by exchange n at its end
 pub record Orders (i n : ℕ) (ms : List Move) (P : Course → Type 0) : Type 0 where
   pub all_asked : Asked ms start
-  pub in_order_lem : is_in_order i n ms start ≡ true
+  pub in_order : is_in_order i n ms start ≡ true
   pub ends : P (end_of ms start)
 
 pub orders : (i n : ℕ) (ms : List Move) {P : Course → Type 0} → AskedBy quick_next ms start →
     is_in_order_by i quick_next n ms start ≡ true → P (end_by quick_next ms start) → Orders i n ms P
 orders i n ms {P} r h p =
     let (all, order, end) = quick-order i n ms start right-start r h in
-    record { all_asked = all; in_order_lem = order; ends = subst P end p }
+    record { all_asked = all; in_order = order; ends = subst P end p }

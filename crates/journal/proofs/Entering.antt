@@ -24,7 +24,7 @@ use Rattle.journal.proofs.Rows.{entered-all-length, kept_at, new-at, behind-at}
 pub record Entering (n clock : ℕ) (b : Batch) (p : Places) (xs zs : List Event) : Type 0 where
   pub same : length zs ≡ length xs
   pub begins : mixed p.first zs xs ≡ xs
-  pub in_order_lem : (p.first ≤ p.start) × (p.start ≤ p.end)
+  pub in_order : (p.first ≤ p.start) × (p.start ≤ p.end)
   -- a place that is given a record
   pub moves : (i : ℕ) → p.first ≤ i → i < p.start → (length xs ≡ record_count) × (i + p.by < record_count)
   pub moved : (i : ℕ) → p.first ≤ i → i < p.start → get_or xs (i + p.by) no_event ≡ get_or zs i no_event
@@ -56,7 +56,7 @@ module _ (n clock : ℕ) (b : Batch) (xs : List Event) where
       (record {
         same = refl;
         begins = mixed-front u xs xs no_event refl (λ j l. refl);
-        in_order_lem = (omega arith, omega arith);
+        in_order = (omega arith, omega arith);
         moves = λ i h l. absurd (omega (arith, h, l));
         moved = λ i h l. absurd (omega (arith, h, l));
         takes = λ i h l. absurd (omega (arith, h, l));
@@ -90,7 +90,7 @@ module _ (n clock : ℕ) (b : Batch) (xs : List Event) where
         (record {
           same = same_length;
           begins = mixed-front u zs xs no_event same_length (λ j l. sym (record-here j 0 (omega (arith, fit)) (omega (arith, l))) ∙ ap (λ (k : ℕ). get_or xs k no_event) (omega arith));
-          in_order_lem = (omega arith, omega arith);
+          in_order = (omega arith, omega arith);
           moves = λ i h l. absurd (omega (arith, h, l));
           moved = λ i h l. absurd (omega (arith, h, l));
           takes = λ i h l. (len, omega (arith, fit, l), fits, omega (arith, h, l, count_most b.count));
@@ -105,7 +105,7 @@ module _ (n clock : ℕ) (b : Batch) (xs : List Event) where
         (record {
           same = same_length;
           begins = mixed-none zs xs;
-          in_order_lem = (omega arith, omega (arith, used-most n));
+          in_order = (omega arith, omega (arith, used-most n));
           moves = λ i h l. (len, omega (arith, l, over, used-most n));
           moved = λ i h l. record-here i ((u + c) - record_count) refl (omega (arith, l));
           takes = λ i h l. (len, l, fits, omega (arith, h, l, over, used-most n, count_most b.count));

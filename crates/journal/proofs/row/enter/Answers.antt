@@ -75,7 +75,7 @@ loop-i-init c =
     let p = c.places_of-places.result in
     let k = nine_entries a.batch _ c.well_formed.1.1.1.0 in
     let right = rightly a.events a.clock a.batch a.row.now p k c.places_of-places.ensures in
-    (omega arith, right.in_order_lem.0, sym right.begins)
+    (omega arith, right.in_order.0, sym right.begins)
 
 pub overflow_add-row : goal.overflow_add-row
 overflow_add-row c =
@@ -141,7 +141,7 @@ loop-i-2-init c =
     let p = c.places_of-places.result in
     let k = nine_entries a.batch _ c.well_formed.1.1.1.0 in
     let right = rightly a.events a.clock a.batch a.row.now p k c.places_of-places.ensures in
-    (omega arith, omega (arith, right.in_order_lem), c.loop-i.invariant.2)
+    (omega arith, omega (arith, right.in_order), c.loop-i.invariant.2)
 
 pub event_at-requires : goal.event_at-requires
 event_at-requires c =

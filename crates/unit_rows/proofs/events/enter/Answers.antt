@@ -160,7 +160,7 @@ loop-i-2-init c =
     c.well_formed.1.1.1.0.1.1.1.0.1.0.1 in
     entering-row a.row.now a.events a.clock a.batch c.places_of-places.result nine c.places_of-places.ensures in
     let k = known in
-    (omega (arith, c.loop-i-test.false), omega (arith, c.loop-i.invariant.1, k.in_order_lem.1), λ zs xs same begins taken. begins)
+    (omega (arith, c.loop-i-test.false), omega (arith, c.loop-i.invariant.1, k.in_order.1), λ zs xs same begins taken. begins)
 
 pub loop-i-init : goal.loop-i-init
 loop-i-init c =
@@ -171,4 +171,4 @@ loop-i-init c =
     c.well_formed.1.1.1.0.1.1.1.0.1.0.1 in
     entering-row a.row.now a.events a.clock a.batch c.places_of-places.result nine c.places_of-places.ensures in
     let k = known in
-    (omega arith, k.in_order_lem.0, sym k.begins)
+    (omega arith, k.in_order.0, sym k.begins)
