@@ -1,4 +1,5 @@
 // The events that a frame call enters into the journal.
 #![tactic(auto)]
+
 pub mod actions;
 pub mod drops;

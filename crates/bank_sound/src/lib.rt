@@ -1,3 +1,4 @@
 // The one test of the bank's rows.
 #![tactic(auto)]
+
 pub mod sound;

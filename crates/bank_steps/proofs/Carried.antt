@@ -1,7 +1,7 @@
 -- What a verdict on a request leaves alone, and what it does where its transaction is open. Assumes nothing.
 use Prim.Native.Nat.{ℕ, ◌<◌, ◌≤◌}
 use mathlib.Core.Bool.{Bool, false}
-use mathlib.Core.List.{List, [], ◌∷◌}
+use mathlib.Core.List.{List}
 use mathlib.Core.Path.{◌≡◌, refl, sym, ap, ◌∙◌}
 use Rattle.std.proofs.Common.{◌≢◌}
 use native.Mathlib.Omega.{arith}
@@ -38,8 +38,6 @@ use Rattle.bank_verdicts.proofs.Sound.{OpeningSound, UploadSound, DownloadSound}
 use Rattle.bank_verdicts.proofs.Sound.{judged-opening, judged-upload, judged-download}
 use Rattle.bank_verdicts.proofs.Sound as sound
 use Rattle.bank_verdicts.proofs.Signing.{is_acted, is_signed}
-use Rattle.bank_verdicts.specs.contracts.verdict.DownloadAction as actions
-use Rattle.bank_verdicts.specs.contracts.verdict.Verdict.{the_type}
 use Rattle.bank_openings.specs.Openings.{open_upload, open_download}
 use Rattle.bank_signing.specs.Signings.{sign}
 use Rattle.bank_uploads.specs.Uploads.{UploadStep, upload_step}

@@ -20,7 +20,6 @@ use Rattle.message.specs.declared.codes.ReturnCode.{ReturnCode}
 use Rattle.message.specs.declared.codes.ReturnCode.TheVariants as code
 use Rattle.message.specs.Editions.{form_edition, edition_of, opening_form}
 use Rattle.message.proofs.Verdicts.{by-test, and-false}
-use Rattle.bank_state.specs.declared.state.Download.{Download}
 use Rattle.bank_state.specs.Limits.{place_count}
 use Rattle.bank_state.specs.Search.{free_place, is_upload, find_upload, is_download, find_download}
 use Rattle.bank_state.specs.State.{BankState, place_at, download_at, file_length}

@@ -1,3 +1,4 @@
 // What each step of one upload does: judged by document 01's refusals, then carried out on that transaction alone.
 #![tactic(auto)]
+
 pub mod uploads;

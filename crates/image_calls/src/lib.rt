@@ -1,5 +1,6 @@
 // Putting a session away into a lent buffer, and taking it up again.
 #![tactic(auto)]
+
 pub mod calls;
 pub mod core;
 pub mod held;

@@ -1,5 +1,6 @@
 // A session's numbers in the order of its image.
 #![tactic(auto)]
+
 pub mod events;
 pub mod moving;
 pub mod numbers;

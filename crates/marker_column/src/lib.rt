@@ -1,3 +1,4 @@
 // The third column of the marker: the offset of an opening.
 #![tactic(auto)]
+
 pub mod offset;

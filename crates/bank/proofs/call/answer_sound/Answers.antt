@@ -4,11 +4,10 @@ use borrow.Author.Rules.{rules}
 use Rattle.bank.proofs.call.answer_sound.Goals as goal
 
 pub answer_request-requires : goal.answer_request-requires
-answer_request-requires c =
-    (
-      c.requires,
-      read-bounded _ (λ i. (c.type_inv.frame i).fits) c.read_whole_request-p.ensures.0,
-    )
+answer_request-requires c = (
+  c.requires,
+  read-bounded _ (λ i. (c.type_inv.frame i).fits) c.read_whole_request-p.ensures.0,
+)
 
 pub returns : goal.returns
 returns c =

@@ -1,5 +1,4 @@
 -- The state at the new clock, then the drops: two changes stored as one.
-use borrow.Author.Rules.{rules}
 use Prim.Native.Nat.{ℕ, max}
 use mathlib.Core.Path.{ap, ◌∙◌}
 use Rattle.bank_clock.proofs.Steps.{at-clock-laid, advanced-stored}

@@ -1,6 +1,5 @@
 -- An idle upload's place is freed and its bytes are zeroed; any other stays.
 use Rattle.bank_clock.proofs.Steps.{dropped-idle, dropped-none}
-use borrow.Author.Rules.{rules}
 use Rattle.bank_clock.proofs.clock.drop_upload.Goals as goal
 
 pub returns-then-is_idle_upload : goal.returns-then-is_idle_upload

@@ -1,14 +1,7 @@
 -- The first i places are gone through.
-use borrow.Author.Rules.{rules}
-use Prim.Native.Nat.{ℕ, ◌-◌, ◌≤◌}
-use mathlib.Core.List.{List}
 use mathlib.Core.Path.{◌≡◌, refl, ◌∙◌}
 use native.Mathlib.Omega.{arith}
-use lib.ListN.{length}
 use Rattle.bank_state.specs.Limits.{place_count}
-use Rattle.bank_state.specs.Clock.{drop_uploads}
-use Rattle.bank_state.specs.State.{bank_state}
-use Rattle.bank_rows.specs.State.{bank_of, StoredWith}
 use Rattle.bank_clock.proofs.Steps.{drops-start, drops-laid, drops-next}
 use Rattle.bank_clock.proofs.clock.drop_uploads.Goals as goal
 
@@ -26,8 +19,7 @@ drop_upload-requires c =
 
 pub loop-i-preserved : goal.loop-i-preserved
 loop-i-preserved c =
-    let a = c.args in
-    (
+    let a = c.args in (
       omega arith,
       c.drop_upload.auto.rows ∙ c.loop-i.invariant.1,
       c.drop_upload.auto.orders ∙ c.loop-i.invariant.2,

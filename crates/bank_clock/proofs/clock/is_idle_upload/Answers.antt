@@ -1,13 +1,11 @@
 -- An open upload, then the time of its last fitting request.
 use mathlib.Core.Bool.{true, false}
 use mathlib.Core.Path.{◌≡◌, sym, ◌∙◌}
-use borrow.Author.Tests.{not-true, not-false}
 use Rattle.bank_state.specs.Clock.{is_idle}
 use Rattle.bank_state.specs.Search.{is_open}
 use Rattle.bank_state.specs.State.{place_at}
 use Rattle.bank_rows.specs.State.{bank_of}
 use Rattle.bank_rows.proofs.Reading.{place_read}
-use borrow.Author.Rules.{rules}
 use Rattle.bank_clock.proofs.clock.is_idle_upload.Goals as goal
 
 pub returns-then-not-is_open_at : goal.returns-then-not-is_open_at

@@ -1,6 +1,5 @@
 -- The clock, then the downloads that end, then the nonces: three changes stored as one.
 use Rattle.bank_clock.proofs.Steps.{clocked-laid, ended-laid, at-clock-stored}
-use borrow.Author.Rules.{rules}
 use Rattle.bank_clock.proofs.clock.set_to.Goals as goal
 
 pub end_downloads-requires : goal.end_downloads-requires

@@ -1,6 +1,5 @@
 -- Uploads and downloads together.
 use native.Mathlib.Omega.{arith}
-use borrow.Author.Rules.{rules}
 use Rattle.bank_clock.specs.Idle.{idle_count}
 use Rattle.bank_clock.proofs.idle.idle_count.Goals as goal
 

@@ -1,14 +1,9 @@
 -- Of the places passed, so many hold an open upload that is idle.
 use native.Mathlib.Omega.{arith}
-use borrow.Author.Rules.{rules}
-use Prim.Native.Nat.{◌-◌}
 use mathlib.Core.Path.{sym, ◌∙◌}
-use Rattle.bank_state.specs.Limits.{place_count}
 use Rattle.bank_state.specs.State.{no_place}
-use Rattle.bank_state.proofs.Loops.{Counted, counted_start, counted-one, counted_none, counted-end}
-use Rattle.bank_rows.specs.State.{bank_of}
+use Rattle.bank_state.proofs.Loops.{counted_start, counted-one, counted_none, counted-end}
 use Rattle.bank_rows.proofs.Reading.{length-places-of}
-use Rattle.bank_clock.specs.Idle.{is_idle_upload}
 use Rattle.bank_clock.proofs.idle.idle_uploads.Goals as goal
 
 pub loop-i-init : goal.loop-i-init

@@ -1,7 +1,6 @@
 -- A row in use is open, and the time of its last fitting request is a number of the row.
 use Rattle.bank_state.specs.Clock.{is_idle}
 use Rattle.bank_rows.proofs.Reading.{download-read}
-use borrow.Author.Rules.{rules}
 use Rattle.bank_clock.proofs.idle.is_idle_download.Goals as goal
 
 pub returns : goal.returns

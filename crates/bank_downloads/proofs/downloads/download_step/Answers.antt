@@ -1,7 +1,6 @@
 -- By the action of the request: what is asked of each function follows from the lines that led to the action.
 -- Assumes nothing.
 use mathlib.Core.Path.{sym, ◌∙◌}
-use borrow.Author.Rules.{rules}
 use Rattle.bank_downloads.specs.Downloads.{download_step}
 use Rattle.bank_downloads.proofs.DownloadVerdicts.{delivered-next, sent-again-answered, point-answered}
 use Rattle.bank_downloads.proofs.downloads.download_step.Goals as goal

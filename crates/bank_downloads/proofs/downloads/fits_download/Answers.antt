@@ -1,5 +1,4 @@
 -- By the request's form: the next segment up to N fits, and a receipt when all are delivered. Assumes nothing.
-use borrow.Author.Rules.{rules}
 use Rattle.bank_downloads.proofs.downloads.fits_download.Goals as goal
 
 pub returns-in-DownloadTransfer : goal.returns-in-DownloadTransfer

@@ -1,5 +1,4 @@
 -- By the request's form: only a download transfer asks for a segment. Assumes nothing.
-use borrow.Author.Rules.{rules}
 use Rattle.bank_downloads.proofs.downloads.is_sent_again.Goals as goal
 
 pub returns-in-DownloadTransfer : goal.returns-in-DownloadTransfer

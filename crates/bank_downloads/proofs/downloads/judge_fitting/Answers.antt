@@ -1,6 +1,5 @@
 -- A receipt is answered by its code; a segment that fits is delivered. Assumes nothing.
 use borrow.Author.Tests.{ne_eqb}
-use borrow.Author.Rules.{rules}
 use Rattle.bank_verdicts.specs.Refusals.{receipt_rows}
 use Rattle.bank_downloads.proofs.downloads.judge_fitting.Goals as goal
 

@@ -1,5 +1,4 @@
 -- The place is where the search finds the upload; where it finds none the definition looks behind the last place.
-use borrow.Author.Rules.{rules}
 use mathlib.Core.Path.{◌≡◌, sym, ap, ◌∙◌}
 use Prim.Native.Nat.{ℕ}
 use native.Mathlib.Omega.{arith}

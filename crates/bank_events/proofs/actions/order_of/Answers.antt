@@ -1,5 +1,4 @@
 -- An upload's order by its action; a download has none.
-use borrow.Author.Rules.{rules}
 use Rattle.bank_events.proofs.actions.order_of.Goals as goal
 
 pub returns-in-Upload : goal.returns-in-Upload

@@ -1,5 +1,4 @@
 -- The transaction that the verdict names, or none.
-use borrow.Author.Rules.{rules}
 use Rattle.bank_events.proofs.actions.verdict_id.Goals as goal
 
 pub returns-in-Unreadable : goal.returns-in-Unreadable

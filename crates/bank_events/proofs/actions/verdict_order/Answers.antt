@@ -1,5 +1,4 @@
 -- By the verdict's action, where it has one; a signing has the number itself.
-use borrow.Author.Rules.{rules}
 use Rattle.bank_events.proofs.actions.verdict_order.Goals as goal
 
 pub returns-in-Of : goal.returns-in-Of

@@ -1,9 +1,8 @@
 -- The request's event is entered, or there is none.
-use borrow.Author.Rules.{rules}
 use mathlib.Core.List.{List, ◌++◌}
 use mathlib.Core.Path.{◌≡◌, sym, ◌∙◌, subst}
 use native.Mathlib.Omega.{arith}
-use lib.ListN.{length, length-map}
+use lib.ListN.{length}
 use Rattle.journal.specs.declared.event.Entry.{Entry}
 use Rattle.journal.specs.Events.{max_entries, entries_in}
 use Rattle.bank_events.specs.Entries.{Holds}

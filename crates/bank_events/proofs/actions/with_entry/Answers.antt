@@ -1,8 +1,7 @@
 -- The entry goes to the first place that is free.
-use borrow.Author.Rules.{rules}
-use mathlib.Core.Path.{◌≡◌, refl, sym, ◌∙◌}
+use mathlib.Core.Path.{◌≡◌, refl}
 use native.Mathlib.Omega.{arith}
-use lib.ListN.{length, length-map}
+use lib.ListN.{length}
 use Rattle.journal.specs.Events.{max_entries}
 use Rattle.bank_events.proofs.Batches.{holds-one}
 use Rattle.bank_events.proofs.actions.with_entry.Goals as goal

@@ -1,7 +1,6 @@
 -- Each direction by its own verdict. Assumes nothing.
 use mathlib.Core.Bool.{false}
 use mathlib.Core.Path.{◌≡◌, subst}
-use borrow.Author.Rules.{rules}
 use Rattle.bank_rows.specs.State.{bank_of}
 use Rattle.bank_verdicts.specs.declared.verdict.Direction.{Direction}
 use Rattle.bank_verdicts.specs.Refusals.{series_ended}

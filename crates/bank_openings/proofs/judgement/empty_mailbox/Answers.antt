@@ -1,5 +1,4 @@
 -- Only a download needs a file in the mailbox. Assumes nothing.
-use borrow.Author.Rules.{rules}
 use Rattle.bank_openings.proofs.judgement.empty_mailbox.Goals as goal
 
 pub returns-in-Download : goal.returns-in-Download

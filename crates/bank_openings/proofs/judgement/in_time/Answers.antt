@@ -4,7 +4,6 @@ use Prim.Native.Nat.{ℕ, ◌+◌, ◌-◌, ◌<◌, ◌≤◌}
 use native.Mathlib.Omega.{arith}
 use lib.Dec.{leb}
 use borrow.Author.Tests.{le-leb}
-use borrow.Author.Rules.{rules}
 use Rattle.bank_state.specs.Limits.{window}
 use Rattle.bank_verdicts.specs.Refusals.{in_time}
 use Rattle.octets.proofs.Tests.{leb-same, and-true-right}

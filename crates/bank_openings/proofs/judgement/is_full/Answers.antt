@@ -1,6 +1,5 @@
 -- The five causes of 061099 are looked at in the order of the definition's "or". Assumes nothing.
 use mathlib.Core.Path.{◌≡◌, sym, ap, ◌∙◌}
-use borrow.Author.Rules.{rules}
 use borrow.Author.Tests.{le-leb, lt-leb}
 use lib.Dec.{leb}
 use mathlib.Core.Bool.{◌||◌}

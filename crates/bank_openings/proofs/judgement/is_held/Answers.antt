@@ -1,5 +1,4 @@
 -- Only an opening of edition 2.4 brings a number, and it is looked for among its subscriber's. Assumes nothing.
-use borrow.Author.Rules.{rules}
 use Rattle.bank_openings.proofs.judgement.is_held.Goals as goal
 
 pub returns-in-V24 : goal.returns-in-V24

@@ -7,7 +7,6 @@ use Rattle.bank_rows.specs.State.{bank_of}
 use Rattle.bank_verdicts.specs.Judgement.{judged, accepted, judge_opening}
 use Rattle.bank_verdicts.specs.Refusals.{is_full, no_share, opening_rows}
 use Rattle.bank_verdicts.proofs.Sound.{place-and-numbers}
-use borrow.Author.Rules.{rules}
 use Rattle.bank_openings.proofs.judgement.judge_opening.Goals as goal
 
 pub returns-then-unknown_type : goal.returns-then-unknown_type

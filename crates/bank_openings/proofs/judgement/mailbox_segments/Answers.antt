@@ -1,5 +1,4 @@
 -- The count of segments follows from the file's length. Assumes nothing.
-use borrow.Author.Rules.{rules}
 use Rattle.bank_openings.proofs.judgement.mailbox_segments.Goals as goal
 
 pub returns : goal.returns

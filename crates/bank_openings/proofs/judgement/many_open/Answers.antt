@@ -1,6 +1,5 @@
 -- The count is of the request's subscriber. Assumes nothing.
 use Rattle.bank_verdicts.specs.Refusals.{many_open}
-use borrow.Author.Rules.{rules}
 use Rattle.bank_openings.proofs.judgement.many_open.Goals as goal
 
 pub returns : goal.returns

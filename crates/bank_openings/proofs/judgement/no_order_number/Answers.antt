@@ -1,5 +1,4 @@
 -- Only an opening of edition 2.4 brings a number. Assumes nothing.
-use borrow.Author.Rules.{rules}
 use Rattle.bank_openings.proofs.judgement.no_order_number.Goals as goal
 
 pub returns-in-V24 : goal.returns-in-V24

@@ -1,5 +1,4 @@
 -- The bank's own limits first, then the share. Assumes nothing.
-use borrow.Author.Rules.{rules}
 use Rattle.bank_openings.proofs.judgement.no_room.Goals as goal
 
 pub returns-then-is_full : goal.returns-then-is_full

@@ -5,7 +5,6 @@ use mathlib.Core.Path.{◌≡◌}
 use native.Mathlib.Omega.{arith}
 use lib.Dec.{leb}
 use borrow.Author.Tests.{le-leb, lt-leb}
-use borrow.Author.Rules.{rules}
 use Rattle.bank_state.specs.Limits.{shared_open, sure_open}
 use Rattle.bank_state.specs.Search.{open_count}
 use Rattle.bank_state.specs.State.{Bank}

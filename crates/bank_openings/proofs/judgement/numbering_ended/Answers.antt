@@ -1,5 +1,4 @@
 -- An opening of edition 2.4 needs no number of the bank's. Assumes nothing.
-use borrow.Author.Rules.{rules}
 use Rattle.bank_openings.proofs.judgement.numbering_ended.Goals as goal
 
 pub returns-in-V24 : goal.returns-in-V24

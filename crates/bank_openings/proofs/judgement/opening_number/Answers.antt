@@ -1,6 +1,5 @@
 -- By the edition, the number that it brings or the bank's own. Assumes nothing.
 use mathlib.Core.Path.{sym, ◌∙◌}
-use borrow.Author.Rules.{rules}
 use Rattle.bank_rows.specs.State.{bank_of}
 use Rattle.bank_verdicts.specs.Judgement.{opening_number}
 use Rattle.bank_openings.proofs.Numbering.{counter-below}

@@ -1,5 +1,4 @@
 -- Each direction by its own test. Assumes nothing.
-use borrow.Author.Rules.{rules}
 use Rattle.bank_openings.proofs.judgement.other_direction.Goals as goal
 
 pub returns-in-Upload : goal.returns-in-Upload

@@ -1,5 +1,4 @@
 -- Only an upload has a series. Assumes nothing.
-use borrow.Author.Rules.{rules}
 use Rattle.bank_openings.proofs.judgement.series_ended.Goals as goal
 
 pub returns-in-Upload : goal.returns-in-Upload

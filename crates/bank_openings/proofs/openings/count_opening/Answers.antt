@@ -2,7 +2,6 @@
 use native.Mathlib.Omega.{arith}
 use Rattle.bank_rows.proofs.Reading.{free-nonce}
 use Rattle.bank_openings.proofs.Opened.{noted-laid, counted-stored}
-use borrow.Author.Rules.{rules}
 use Rattle.bank_openings.proofs.openings.count_opening.Goals as goal
 
 pub add_nonce-requires : goal.add_nonce-requires

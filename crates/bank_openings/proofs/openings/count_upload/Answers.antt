@@ -1,16 +1,14 @@
 -- One opening more, then the series: two changes stored as one.
 use Rattle.bank_verdicts.specs.declared.verdict.Direction.TheVariants as direction
 use Rattle.bank_openings.proofs.Opened.{counted-laid, upload-counted}
-use borrow.Author.Rules.{rules}
 use Rattle.bank_openings.proofs.openings.count_upload.Goals as goal
 
 pub move_series-requires : goal.move_series-requires
-move_series-requires c =
-    (
-      counted-laid c.args.rows.now c.requires.0 c.args.q direction.Upload c.requires.1 _
-          c.count_opening.ensures,
-      c.requires.2,
-    )
+move_series-requires c = (
+  counted-laid c.args.rows.now c.requires.0 c.args.q direction.Upload c.requires.1 _
+      c.count_opening.ensures,
+  c.requires.2,
+)
 
 pub returns : goal.returns
 returns c =

@@ -3,7 +3,6 @@ use mathlib.Core.Path.{sym, ◌∙◌}
 use native.Mathlib.Omega.{arith}
 use Rattle.bank_rows.proofs.State.{stored-own}
 use Rattle.bank_openings.proofs.Numbering.{fits_below}
-use borrow.Author.Rules.{rules}
 use Rattle.bank_openings.proofs.openings.move_series.Goals as goal
 
 pub overflow_add-number : goal.overflow_add-number

@@ -3,7 +3,6 @@ use mathlib.Core.Path.{refl}
 use native.Mathlib.Omega.{arith}
 use Rattle.bank_verdicts.specs.declared.verdict.Direction.TheVariants as direction
 use Rattle.bank_openings.proofs.Opened.{counted-laid, counted-downloads, download-stored}
-use borrow.Author.Rules.{rules}
 use Rattle.bank_openings.proofs.openings.open_download.Goals as goal
 
 pub add_download-requires : goal.add_download-requires

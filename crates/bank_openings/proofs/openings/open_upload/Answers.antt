@@ -1,7 +1,6 @@
 -- One upload more, then its place: two changes stored as one.
 use native.Mathlib.Omega.{arith}
 use Rattle.bank_openings.proofs.Opened.{upload-laid, upload-stored}
-use borrow.Author.Rules.{rules}
 use Rattle.bank_openings.proofs.openings.open_upload.Goals as goal
 
 pub set_place-requires : goal.set_place-requires

@@ -1,10 +1,7 @@
 -- The numbers that the search has passed are held, and at most as many as there are places.
-use Prim.Native.Nat.{◌+◌, ◌≤◌}
-use mathlib.Core.Path.{◌≡◌, sym, ap, ◌∙◌}
+use mathlib.Core.Path.{sym, ap, ◌∙◌}
 use native.Mathlib.Omega.{arith}
-use borrow.Author.Rules.{rules}
-use borrow.Author.Tests.{not-true, not-false}
-use Rattle.bank_state.specs.Limits.{place_count, series_limit}
+use Rattle.bank_state.specs.Limits.{place_count}
 use Rattle.bank_state.specs.Numbers.{first_unheld, next_number}
 use Rattle.bank_state.proofs.Numbers.{unheld-here, unheld-step, unheld-end}
 use Rattle.bank_rows.specs.State.{bank_of}

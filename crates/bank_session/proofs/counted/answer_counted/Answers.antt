@@ -64,8 +64,7 @@ moved-counts-requires c =
     let idle : let b = bank_of c.args.rows.now in
     c.idle_count-gone.result ≡ idle_count (max b.clock c.args.time) b = c.idle_count-gone.ensures
     ∙ ap (λ (n : ℕ). idle_count n (bank_of c.args.rows.now))
-    (c.larger.ensures ∙ ap (λ (n : ℕ). max n c.args.time) c.clock.ensures) in
-    (
+    (c.larger.ensures ∙ ap (λ (n : ℕ). max n c.args.time) c.clock.ensures) in (
       c.requires,
       gone-few (memory) (input) (sound) (idle),
       others-few (sound-laid _ (sound)) _ _ c.open_count-before.ensures c.others_of-others.ensures,
@@ -79,8 +78,7 @@ returns c =
     let idle : let b = bank_of c.args.rows.now in
     c.idle_count-gone.result ≡ idle_count (max b.clock c.args.time) b = c.idle_count-gone.ensures
     ∙ ap (λ (n : ℕ). idle_count n (bank_of c.args.rows.now))
-    (c.larger.ensures ∙ ap (λ (n : ℕ). max n c.args.time) c.clock.ensures) in
-    (
+    (c.larger.ensures ∙ ap (λ (n : ℕ). max n c.args.time) c.clock.ensures) in (
       c.answer_sound-step.ensures.0,
       c.answer_sound-step.ensures.1,
       c.moved-counts.ensures

@@ -1,5 +1,4 @@
 -- The set is a number of 8 bits. Assumes nothing.
-use borrow.Author.Rules.{rules}
 use Rattle.bank_signing.proofs.judgement.is_new.Goals as goal
 
 pub returns : goal.returns

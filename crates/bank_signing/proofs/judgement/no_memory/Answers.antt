@@ -1,5 +1,4 @@
 -- The count of the nonces is where the first one is free. Assumes nothing.
-use borrow.Author.Rules.{rules}
 use Rattle.bank_verdicts.specs.Refusals.{no_memory}
 use Rattle.bank_signing.proofs.judgement.no_memory.Goals as goal
 

@@ -1,5 +1,4 @@
 -- The search goes by the request's owner and order number. Assumes nothing.
-use borrow.Author.Rules.{rules}
 use Rattle.bank_rows.specs.State.{bank_of}
 use Rattle.bank_signing.proofs.Signed.{found_at}
 use Rattle.bank_signing.proofs.judgement.order_at.Goals as goal

@@ -1,7 +1,6 @@
 -- The order's ID and number, and whether the subscriber is none of its signers. Assumes nothing.
 use mathlib.Core.Path.{ap}
 use native.Mathlib.Omega.{arith}
-use borrow.Author.Rules.{rules}
 use Rattle.bank_state.specs.declared.state.Place.{Place}
 use Rattle.bank_signing.proofs.judgement.signed.Goals as goal
 

@@ -1,14 +1,9 @@
 -- The search passes the places that hold another order or none.
-use native.Mathlib.Omega.{arith}
-use borrow.Author.Rules.{rules}
 use Prim.Native.Nat.{◌-◌}
-use mathlib.Core.Path.{sym, ap, ◌∙◌}
 use Rattle.bank_state.specs.Limits.{place_count}
-use Rattle.bank_state.specs.State.{no_place}
-use Rattle.bank_state.proofs.Loops.{Searched, searched-start, searched-next, searched-hit, searched-end}
+use Rattle.bank_state.proofs.Loops.{Searched}
 use Rattle.bank_rows.specs.State.{bank_of}
-use Rattle.bank_rows.proofs.Reading.{length-places-of}
-use Rattle.bank_verdicts.specs.Refusals.{is_order, find_order}
+use Rattle.bank_verdicts.specs.Refusals.{is_order}
 use Rattle.bank_signing.proofs.orders.find_order.Given as goal
 
 abbrev pub invariant-loop-i : goal.invariant-loop-i

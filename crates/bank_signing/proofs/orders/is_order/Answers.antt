@@ -1,6 +1,5 @@
 -- Its use, its subscriber, then its order number, as the definition's "and" has them. Assumes nothing.
-use borrow.Author.Tests.{not-true, not-false, eq-eqb, ne_eqb}
-use borrow.Author.Rules.{rules}
+use borrow.Author.Tests.{eq-eqb, ne_eqb}
 use Rattle.bank_verdicts.specs.Refusals.{is_order}
 use Rattle.bank_signing.proofs.orders.is_order.Goals as goal
 

@@ -1,6 +1,5 @@
 -- The place, then the nonce: two changes stored as one. Assumes nothing.
 use native.Mathlib.Omega.{arith}
-use borrow.Author.Rules.{rules}
 use Rattle.bank_rows.specs.State.{bank_of}
 use Rattle.bank_signing.proofs.Signed.{found_at, placed_at, found-signers, placed-laid, placed-memory, signed-stored}
 use Rattle.bank_signing.proofs.signing.sign.Goals as goal

@@ -1,5 +1,4 @@
 -- The set is a number of 8 bits, and so is the one with the signer. Assumes nothing.
-use borrow.Author.Rules.{rules}
 use Rattle.bank_signing.proofs.signing.signed_place.Goals as goal
 
 pub returns : goal.returns

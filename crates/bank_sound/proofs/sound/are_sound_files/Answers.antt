@@ -1,13 +1,9 @@
 -- The files passed are in range; one that is not decides.
 use native.Mathlib.Omega.{arith}
-use borrow.Author.Rules.{rules}
-use Prim.Native.Nat.{◌-◌, ◌≤◌}
-use mathlib.Core.Bool.{true}
-use mathlib.Core.Path.{◌≡◌, sym}
+use mathlib.Core.Path.{sym}
 use borrow.Author.Tests.{le-leb, lt-leb}
 use Rattle.bank_state.specs.Limits.{place_count}
 use Rattle.bank_sound.specs.Sound.{is_sound_file}
-use Rattle.bank_rows.specs.Rows.{all_below}
 use Rattle.bank_rows.proofs.Tests.{all_none, all-next, all-fails}
 use Rattle.bank_sound.proofs.sound.are_sound_files.Goals as goal
 
@@ -23,4 +19,3 @@ pub loop-i-preserved : goal.loop-i-preserved
 loop-i-preserved c =
     let a = c.args in
     (omega (arith, c.loop-i-test.true), all-next (is_sound_file a.rows.now) c.loop-i.i c.loop-i.invariant.1 (le-leb _ _ c.if-rows-i.false))
-

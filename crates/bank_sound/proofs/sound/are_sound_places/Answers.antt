@@ -1,13 +1,8 @@
 -- The places passed are in range; one that is not decides.
 use native.Mathlib.Omega.{arith}
-use borrow.Author.Rules.{rules}
-use Prim.Native.Nat.{◌-◌, ◌≤◌}
-use mathlib.Core.Bool.{true}
-use mathlib.Core.Path.{◌≡◌, sym, ◌∙◌}
-use borrow.Author.Tests.{not-true, not-false}
+use mathlib.Core.Path.{sym, ◌∙◌}
 use Rattle.bank_state.specs.Limits.{place_count}
 use Rattle.bank_sound.specs.Sound.{is_sound_place}
-use Rattle.bank_rows.specs.Rows.{all_below}
 use Rattle.bank_rows.proofs.Tests.{all_none, all-next, all-fails}
 use Rattle.bank_sound.proofs.sound.are_sound_places.Goals as goal
 
@@ -26,4 +21,3 @@ loop-i-preserved c =
       omega (arith, c.loop-i-test.true),
       all-next (is_sound_place a.rows.now) c.loop-i.i c.loop-i.invariant.1 (sym c.is_sound_place.ensures ∙ c.if-not-is_sound_place.false),
     )
-

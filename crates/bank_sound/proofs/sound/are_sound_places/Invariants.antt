@@ -1,14 +1,10 @@
 -- The places passed are in range; one that is not decides.
-use native.Mathlib.Omega.{arith}
-use borrow.Author.Rules.{rules}
 use Prim.Native.Nat.{◌-◌, ◌≤◌}
 use mathlib.Core.Bool.{true}
-use mathlib.Core.Path.{◌≡◌, sym, ◌∙◌}
-use borrow.Author.Tests.{not-true, not-false}
+use mathlib.Core.Path.{◌≡◌}
 use Rattle.bank_state.specs.Limits.{place_count}
 use Rattle.bank_sound.specs.Sound.{is_sound_place}
 use Rattle.bank_rows.specs.Rows.{all_below}
-use Rattle.bank_rows.proofs.Tests.{all_none, all-next, all-fails}
 use Rattle.bank_sound.proofs.sound.are_sound_places.Given as goal
 
 abbrev pub invariant-loop-i : goal.invariant-loop-i

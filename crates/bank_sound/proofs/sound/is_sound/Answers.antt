@@ -1,8 +1,6 @@
 -- The tests go from top to bottom, each with what the ones before it told.
 use mathlib.Core.Path.{sym, ◌∙◌}
-use borrow.Author.Tests.{not-true, not-false}
 use Rattle.bank_sound.proofs.Test.{other_length, many-downloads, many-nonces, bad-file, bad-place, downloads-decide}
-use borrow.Author.Rules.{rules}
 use Rattle.bank_sound.proofs.sound.is_sound.Goals as goal
 
 pub returns-then-rows-ne-STATE_SIZE : goal.returns-then-rows-ne-STATE_SIZE

@@ -1,6 +1,5 @@
 -- Its subscriber, then the segments delivered of the mailbox of that number.
 use Rattle.octets.proofs.Tests.{tests}
-use borrow.Author.Rules.{rules}
 use Rattle.bank_sound.proofs.sound.is_sound_download.Goals as goal
 
 pub returns-then-subscriber-lt1 : goal.returns-then-subscriber-lt1

@@ -4,7 +4,6 @@ use mathlib.Core.Path.{◌∙◌}
 use Rattle.octets.proofs.Tests.{tests, and-true-right}
 use Rattle.bank_rows.specs.Layout.{places_at, place_width}
 use Rattle.bank_sound.proofs.Test.{bounded-place}
-use borrow.Author.Rules.{rules}
 use Rattle.bank_sound.proofs.sound.is_sound_place.Goals as goal
 
 pub returns-then-rows-at-gt-BOOKED : goal.returns-then-rows-at-gt-BOOKED

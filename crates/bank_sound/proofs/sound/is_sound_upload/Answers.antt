@@ -3,7 +3,6 @@ use mathlib.Core.Path.{sym}
 use Rattle.octets.proofs.Tests.{tests}
 use Rattle.bank_sound.specs.Sound.{is_sound_upload}
 use Rattle.bank_sound.proofs.Test.{none-to-come}
-use borrow.Author.Rules.{rules}
 use Rattle.bank_sound.proofs.sound.is_sound_upload.Goals as goal
 
 pub returns-then-segments-taken : goal.returns-then-segments-taken

@@ -1,7 +1,6 @@
 -- A frame that is no request is unreadable, and a request goes by its form.
 use mathlib.Core.Path.{refl}
 use Rattle.bank_steps.proofs.Lent.{unchanged}
-use borrow.Author.Rules.{rules}
 use Rattle.bank_steps.proofs.steps.by_form.Goals as goal
 
 pub returns-in-NoForm : goal.returns-in-NoForm

@@ -9,7 +9,6 @@ use Rattle.bank_openings.proofs.Opened.{accepted-room}
 use Rattle.bank_steps.specs.Lent.{lent, CarriedOut}
 use Rattle.bank_steps.proofs.Carried.{unacted}
 use Rattle.bank_steps.proofs.Lent.{none-carried, download-opening-carried}
-use borrow.Author.Rules.{rules}
 use Rattle.bank_steps.proofs.steps.download_opening.Goals as goal
 
 pub open_download-requires : goal.open_download-requires

@@ -10,7 +10,6 @@ use Rattle.bank_steps.specs.Lent.{lent, kept_in}
 use Rattle.bank_steps.proofs.Carried.{stays}
 use Rattle.bank_steps.proofs.Lent.{lent_same}
 use Rattle.bank_steps.proofs.Held.{after-used, download-counted, download-open}
-use borrow.Author.Rules.{rules}
 use Rattle.bank_steps.proofs.steps.downloads_after.Goals as goal
 
 pub set_download-requires : goal.set_download-requires

@@ -3,15 +3,13 @@ use mathlib.Core.Path.{refl, ap, ◌∙◌}
 use native.Mathlib.Omega.{arith}
 use Rattle.bank_state.specs.Store.{zeroed}
 use Rattle.bank_steps.proofs.Lent.{lent_same, ended-laid, emptied-stored}
-use borrow.Author.Rules.{rules}
 use Rattle.bank_steps.proofs.steps.emptied.Goals as goal
 
 pub set_file_length-requires : goal.set_file_length-requires
-set_file_length-requires c =
-    (
-      ended-laid c.args.rows.now c.requires.0 _ _ c.end_downloads.ensures,
-      omega (arith, c.mailbox_of-m.ensures, c.requires.1, c.requires.2),
-    )
+set_file_length-requires c = (
+  ended-laid c.args.rows.now c.requires.0 _ _ c.end_downloads.ensures,
+  omega (arith, c.mailbox_of-m.ensures, c.requires.1, c.requires.2),
+)
 
 pub returns : goal.returns
 returns c =

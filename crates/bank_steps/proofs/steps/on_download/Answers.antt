@@ -14,7 +14,6 @@ use Rattle.bank_steps.specs.Steps.{on_download}
 use Rattle.bank_steps.specs.Lent.{lent, kept_in}
 use Rattle.bank_steps.proofs.Carried.{download-acts-at}
 use Rattle.bank_steps.proofs.Held.{download-counted}
-use borrow.Author.Rules.{rules}
 use Rattle.bank_steps.proofs.steps.on_download.Goals as goal
 
 pub download_at-e-requires : goal.download_at-e-requires

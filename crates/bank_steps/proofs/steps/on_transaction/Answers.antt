@@ -5,7 +5,6 @@ use Rattle.bank_rows.specs.State.{bank_of}
 use Rattle.bank_verdicts.specs.Judgement.{upload_at, download_of}
 use Rattle.bank_steps.proofs.Carried.{in-upload, in-download, in-none}
 use Rattle.bank_steps.proofs.Lent.{unchanged}
-use borrow.Author.Rules.{rules}
 use Rattle.bank_steps.proofs.steps.on_transaction.Goals as goal
 
 pub on_upload-requires : goal.on_upload-requires

@@ -7,7 +7,6 @@ use Rattle.bank_signing.proofs.Signed.{signed-room}
 use Rattle.bank_steps.specs.Lent.{lent, CarriedOut}
 use Rattle.bank_steps.proofs.Carried.{unsigned}
 use Rattle.bank_steps.proofs.Lent.{none-carried, signed-carried}
-use borrow.Author.Rules.{rules}
 use Rattle.bank_steps.proofs.steps.signing.Goals as goal
 
 pub sign-requires : goal.sign-requires

@@ -1,7 +1,7 @@
 -- The tests of every request from top to bottom, then the form. Assumes nothing.
 use mathlib.Core.Path.{◌≡◌, refl}
 use mathlib.Core.Bool.{true, false}
-use borrow.Author.Tests.{not-true, not-false, lt-ltb, le-ltb}
+use borrow.Author.Tests.{lt-ltb, le-ltb}
 use lib.ListN.{length}
 use Rattle.frame_table.specs.Names.{form}
 use Rattle.frame_table.specs.Table.{is_request_form}
@@ -10,7 +10,6 @@ use Rattle.bank_verdicts.specs.Refusals.{no_subscriber, long_data, request_rows}
 use Rattle.bank_verdicts.specs.Judgement.{judge}
 use Rattle.bank_steps.proofs.Accepted.{request-known}
 use Rattle.bank_steps.proofs.Lent.{unchanged}
-use borrow.Author.Rules.{rules}
 use Rattle.bank_steps.proofs.steps.step.Goals as goal
 
 pub returns-then-not-is_request_form : goal.returns-then-not-is_request_form

@@ -1,5 +1,4 @@
 -- Each arm knows the form. Assumes nothing.
-use borrow.Author.Rules.{rules}
 use Rattle.bank_steps.proofs.steps.target_of.Goals as goal
 
 pub returns-in-UploadTransfer : goal.returns-in-UploadTransfer

@@ -9,7 +9,6 @@ use Rattle.bank_openings.proofs.Opened.{accepted-room, accepted-fits}
 use Rattle.bank_steps.specs.Lent.{lent, CarriedOut}
 use Rattle.bank_steps.proofs.Carried.{unacted}
 use Rattle.bank_steps.proofs.Lent.{none-carried, upload-opening-carried}
-use borrow.Author.Rules.{rules}
 use Rattle.bank_steps.proofs.steps.upload_opening.Goals as goal
 
 pub open_upload-requires : goal.open_upload-requires

@@ -1,6 +1,5 @@
 -- The place counts one attempt more. Assumes nothing.
 use mathlib.Core.Path.{refl}
-use borrow.Author.Rules.{rules}
 use Rattle.bank_uploads.specs.Uploads.{attempted}
 use Rattle.bank_uploads.proofs.uploads.attempted.Goals as goal
 

@@ -1,5 +1,4 @@
 -- By the request's form: an upload transfer with the next segment fits, no other request does. Assumes nothing.
-use borrow.Author.Rules.{rules}
 use Rattle.bank_uploads.proofs.uploads.fits_upload.Goals as goal
 
 pub returns-in-UploadTransfer : goal.returns-in-UploadTransfer

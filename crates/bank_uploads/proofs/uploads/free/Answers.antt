@@ -1,5 +1,4 @@
 -- The bytes are cleared, and no place is left. Assumes nothing.
-use borrow.Author.Rules.{rules}
 use Rattle.bank_uploads.proofs.uploads.free.Goals as goal
 
 pub returns : goal.returns

@@ -1,5 +1,4 @@
 -- The place counts one segment and its bytes more. Assumes nothing.
-use borrow.Author.Rules.{rules}
 use Rattle.bank_uploads.specs.Uploads.{grown}
 use Rattle.bank_uploads.proofs.uploads.grown.Goals as goal
 

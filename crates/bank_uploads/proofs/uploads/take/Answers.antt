@@ -1,5 +1,4 @@
 -- The segment goes where the place's bytes end. Assumes nothing.
-use borrow.Author.Rules.{rules}
 use Rattle.bank_uploads.proofs.uploads.take.Goals as goal
 
 pub returns : goal.returns

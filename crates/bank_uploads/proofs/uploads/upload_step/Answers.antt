@@ -1,7 +1,6 @@
 -- By the action of the request: what is asked of each function follows from the lines that led to the action, and from
 -- the place's room. Assumes nothing.
 use mathlib.Core.Path.{sym, ◌∙◌}
-use borrow.Author.Rules.{rules}
 use Rattle.bank_uploads.specs.Uploads.{upload_step}
 use Rattle.bank_uploads.proofs.UploadVerdicts.{took-fits, point-answered}
 use Rattle.bank_uploads.proofs.uploads.upload_step.Goals as goal

@@ -1,5 +1,4 @@
 -- By the direction of the action. Assumes nothing.
-use borrow.Author.Rules.{rules}
 use Rattle.bank_verdicts.proofs.replies.action_reply.Goals as goal
 
 pub returns-in-Upload : goal.returns-in-Upload

@@ -1,5 +1,4 @@
 -- By the direction of the action: an upload's reply has no data. Assumes nothing.
-use borrow.Author.Rules.{rules}
 use Rattle.bank_verdicts.proofs.replies.action_segment_in.Goals as goal
 
 pub returns-in-Download : goal.returns-in-Download

@@ -1,5 +1,4 @@
 -- By the action, each reply form with what the request and the action say. Assumes nothing.
-use borrow.Author.Rules.{rules}
 use Rattle.bank_verdicts.proofs.replies.download_reply.Goals as goal
 
 pub returns-in-Opened : goal.returns-in-Opened

@@ -1,5 +1,4 @@
 -- By the edition, the reply with the order number or without it. Assumes nothing.
-use borrow.Author.Rules.{rules}
 use Rattle.bank_verdicts.proofs.replies.opened_reply.Goals as goal
 
 pub returns-in-V24 : goal.returns-in-V24

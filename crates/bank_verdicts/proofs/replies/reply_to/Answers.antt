@@ -1,5 +1,4 @@
 -- By the verdict. Assumes nothing.
-use borrow.Author.Rules.{rules}
 use Rattle.bank_verdicts.proofs.replies.reply_to.Goals as goal
 
 pub returns-in-Refused : goal.returns-in-Refused

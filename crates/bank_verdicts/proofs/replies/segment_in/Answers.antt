@@ -1,5 +1,4 @@
 -- By the verdict: a refusal and a signing have no data. Assumes nothing.
-use borrow.Author.Rules.{rules}
 use Rattle.bank_verdicts.proofs.replies.segment_in.Goals as goal
 
 pub returns-in-Of : goal.returns-in-Of

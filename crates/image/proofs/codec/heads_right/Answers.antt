@@ -2,9 +2,7 @@
 use mathlib.Core.Path.{refl, sym, ◌∙◌}
 use native.Mathlib.Omega.{arith}
 use borrow.Author.Tests.{eq-eqb, ne_eqb}
-use Rattle.image.specs.Items.{field_items}
-use Rattle.image.specs.Image.{constants_right}
-use Rattle.image.proofs.Reading.{Heading, row-narrow, fields-end, field_room, field-no, field_next}
+use Rattle.image.proofs.Reading.{row-narrow, fields-end, field_room, field-no, field_next}
 use borrow.Author.Rules.{rules}
 use Rattle.image.proofs.codec.heads_right.Goals as goal
 

@@ -1,15 +1,11 @@
 -- `heads_right` meets its contract. The loop's invariant: the fields left to test are the answer. Assumes nothing.
-use mathlib.Core.Path.{refl, sym, ◌∙◌}
-use native.Mathlib.Omega.{arith}
-use borrow.Author.Tests.{eq-eqb, ne_eqb}
 use Rattle.image.specs.Items.{field_items}
 use Rattle.image.specs.Image.{constants_right}
-use Rattle.image.proofs.Reading.{Heading, row-narrow, fields-end, field_room, field-no, field_next}
-use borrow.Author.Rules.{rules}
+use Rattle.image.proofs.Reading.{Heading}
 use Rattle.image.proofs.codec.heads_right.Given as goal
 
 abbrev pub invariant-loop-left : goal.invariant-loop-left
-invariant-loop-left l =     Heading (field_items l.left l.i) l.image l.at (constants_right (field_items l.fields l.field) l.image)
+invariant-loop-left l = Heading (field_items l.left l.i) l.image l.at (constants_right (field_items l.fields l.field) l.image)
 
 abbrev pub decreases-loop-left : goal.decreases-loop-left
 decreases-loop-left l = l.left

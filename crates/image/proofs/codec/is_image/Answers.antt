@@ -1,7 +1,6 @@
 -- `is_image` meets its contract: the length first, then the heads. Assumes nothing.
 use native.Mathlib.Omega.{arith}
 use Rattle.image.proofs.Calls.{fields-items, image-size, image-other, image-heads}
-use borrow.Author.Rules.{rules}
 use Rattle.image.proofs.codec.is_image.Goals as goal
 
 pub returns-then-image-f : goal.returns-then-image-f

@@ -1,12 +1,8 @@
 -- `put_all` meets its contract. The loop's invariant: what is left to write is what the answer lacks. Assumes nothing.
 use mathlib.Core.Path.{refl}
 use native.Mathlib.Omega.{arith}
-use lib.ListN.{length}
-use Rattle.octets.specs.Bytes.{overwrite}
-use Rattle.image.specs.Walk.{rest}
-use Rattle.image.specs.Image.{pack, stores}
-use Rattle.image.proofs.Walking.{ step-head, step_part, step-store, step-done, shorter, bytes-constant, bytes-part, bytes-store, parts-part, }
-use Rattle.image.proofs.Loops.{ Putting, putting-constant, putting-part, putting-below, putting-size, putting-store, putting-end, }
+use Rattle.image.proofs.Walking.{step-head, step_part, step-store, step-done, shorter, bytes-constant, bytes-part, bytes-store, parts-part}
+use Rattle.image.proofs.Loops.{putting-constant, putting-part, putting-below, putting-size, putting-store, putting-end}
 use borrow.Author.Rules.{rules}
 use Rattle.image.proofs.codec.put_all.Goals as goal
 

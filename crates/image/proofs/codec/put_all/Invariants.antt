@@ -1,17 +1,13 @@
 -- `put_all` meets its contract. The loop's invariant: what is left to write is what the answer lacks. Assumes nothing.
-use mathlib.Core.Path.{refl}
-use native.Mathlib.Omega.{arith}
 use lib.ListN.{length}
 use Rattle.octets.specs.Bytes.{overwrite}
 use Rattle.image.specs.Walk.{rest}
 use Rattle.image.specs.Image.{pack, stores}
-use Rattle.image.proofs.Walking.{ step-head, step_part, step-store, step-done, shorter, bytes-constant, bytes-part, bytes-store, parts-part, }
-use Rattle.image.proofs.Loops.{ Putting, putting-constant, putting-part, putting-below, putting-size, putting-store, putting-end, }
-use borrow.Author.Rules.{rules}
+use Rattle.image.proofs.Loops.{Putting}
 use Rattle.image.proofs.codec.put_all.Given as goal
 
 abbrev pub invariant-loop-w : goal.invariant-loop-w
-invariant-loop-w l =     Putting (rest l.c) l.numbers (stores l.orders l.mailboxes) l.buffer l.k l.n l.at (length l.initial.buffer)
+invariant-loop-w l = Putting (rest l.c) l.numbers (stores l.orders l.mailboxes) l.buffer l.k l.n l.at (length l.initial.buffer)
     (overwrite l.initial.buffer 0 (pack (rest l.initial.c) l.numbers (stores l.orders l.mailboxes)))
 
 abbrev pub decreases-loop-w : goal.decreases-loop-w

@@ -6,7 +6,6 @@ use lib.ListN.{get_or}
 use mathlib.Core.List.{[]}
 use Rattle.image.specs.Image.{stores}
 use Rattle.octets.specs.Bytes.{overwrite}
-use borrow.Author.Rules.{rules}
 use Rattle.image.proofs.codec.put_store.Goals as goal
 
 pub copy-requires : goal.copy-requires

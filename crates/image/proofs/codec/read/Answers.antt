@@ -1,8 +1,6 @@
 -- `read` meets its contract: lengths first, then the heads; only then is anything changed. Assumes nothing.
 use mathlib.Core.Path.{sym, ◌∙◌}
-use borrow.Author.Tests.{not-true, not-false}
-use Rattle.image.proofs.Calls.{ rest-items, numbers-size, image-long, image-bytes, store-size, lent-numbers, lent-orders, lent-mailboxes, lent-all, taken-lengths, taken-other, taken-done, }
-use borrow.Author.Rules.{rules}
+use Rattle.image.proofs.Calls.{rest-items, numbers-size, image-long, image-bytes, store-size, lent-numbers, lent-orders, lent-mailboxes, lent-all, taken-lengths, taken-other, taken-done}
 use Rattle.image.proofs.codec.read.Goals as goal
 
 pub returns-then-numbers-f : goal.returns-then-numbers-f

@@ -1,8 +1,6 @@
 -- `read_numbers` meets its contract: lengths first, then the heads; only then is anything changed. Assumes nothing.
 use mathlib.Core.Path.{sym, ◌∙◌}
-use borrow.Author.Tests.{not-true, not-false}
-use Rattle.image.proofs.Calls.{ rest-items, numbers-size, image-bytes, numbers-lengths, numbers-other, numbers-done, }
-use borrow.Author.Rules.{rules}
+use Rattle.image.proofs.Calls.{rest-items, numbers-size, image-bytes, numbers-lengths, numbers-other, numbers-done}
 use Rattle.image.proofs.codec.read_numbers.Goals as goal
 
 pub returns-then-numbers-f : goal.returns-then-numbers-f

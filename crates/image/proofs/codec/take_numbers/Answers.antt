@@ -1,13 +1,12 @@
 -- `take_numbers` meets its contract. The loop's invariant: what is left to read is what the answer lacks. Assumes nothing.
 use mathlib.Core.Path.{refl, sym, ◌∙◌}
 use native.Mathlib.Omega.{arith}
-use lib.ListN.{length}
 use Rattle.image.specs.Walk.{rest}
 use Rattle.image.specs.Image.{numbers_of}
 use Rattle.octets.proofs.Numbers.{overwrite-all}
-use Rattle.image.proofs.Walking.{ step-head, step_part, step-narrow, step-store, step-done, shorter, bytes-constant, bytes-part, bytes-store, parts-part, }
+use Rattle.image.proofs.Walking.{step-head, step_part, step-narrow, step-store, step-done, shorter, bytes-constant, bytes-part, bytes-store, parts-part}
 use Rattle.image.proofs.Lengths.{length-numbers_of}
-use Rattle.image.proofs.Reading.{Taking, taking-constant, taking-part, taking-store, taking-end}
+use Rattle.image.proofs.Reading.{taking-constant, taking-part, taking-store, taking-end}
 use borrow.Author.Rules.{rules}
 use Rattle.image.proofs.codec.take_numbers.Goals as goal
 

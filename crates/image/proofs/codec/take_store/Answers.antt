@@ -1,6 +1,5 @@
 -- `take_store` meets its contract: the whole store is overwritten. Assumes nothing.
 use Rattle.image.proofs.Lengths.{whole-read}
-use borrow.Author.Rules.{rules}
 use Rattle.image.proofs.codec.take_store.Goals as goal
 
 pub returns : goal.returns

@@ -1,6 +1,5 @@
 -- `take_stores` meets its contract: each store is the part of the image at its place. Assumes nothing.
 use Rattle.image.proofs.Calls.{orders-within, mailboxes-within, stores-taken}
-use borrow.Author.Rules.{rules}
 use Rattle.image.proofs.codec.take_stores.Goals as goal
 
 pub take_store-requires : goal.take_store-requires

@@ -1,10 +1,8 @@
 -- `write` meets its contract: lengths first, then whether each number fits its part. Assumes nothing.
 use mathlib.Core.Path.{sym, ◌∙◌}
 use native.Mathlib.Omega.{arith}
-use borrow.Author.Tests.{not-true, not-false}
 use Rattle.image.specs.Image.{image_of}
-use Rattle.image.proofs.Calls.{ rest-items, numbers-size, image-size, lent-numbers, lent-orders, lent-mailboxes, lent-all, lent-stores, written-lengths, written-short, written-unfit, written-done, }
-use borrow.Author.Rules.{rules}
+use Rattle.image.proofs.Calls.{rest-items, numbers-size, image-size, lent-numbers, lent-orders, lent-mailboxes, lent-all, lent-stores, written-lengths, written-short, written-unfit, written-done}
 use Rattle.image.proofs.codec.write.Goals as goal
 
 pub returns-then-numbers-f : goal.returns-then-numbers-f

@@ -4,7 +4,6 @@ use mathlib.Core.Path.{◌≡◌, ap, ◌∙◌}
 use native.Mathlib.Omega.{arith}
 use lib.ListN.{take, drop}
 use Rattle.octets.specs.Bytes.{number}
-use borrow.Author.Rules.{rules}
 use Rattle.image.proofs.numbers.number_at.Goals as goal
 
 pub returns : goal.returns

@@ -1,8 +1,8 @@
 -- `put_number` meets its contract. The loop's invariant: the first i bytes of y are left to write. Assumes nothing.
-use Prim.Native.Nat.{ℕ, ◌-◌, ◌≤◌}
+use Prim.Native.Nat.{ℕ, ◌-◌}
 use mathlib.Core.Path.{◌≡◌, refl, sym, ap, ◌∙◌}
 use native.Mathlib.Omega.{arith}
-use lib.ListN.{length, length-set}
+use lib.ListN.{length-set}
 use Rattle.octets.specs.Bytes.{bytes_of, overwrite}
 use Rattle.octets.proofs.Numbers.{overwrite-nil}
 use Rattle.image.proofs.Bytes.{bytes_of-turn}

@@ -3,7 +3,6 @@ use mathlib.Core.Path.{refl, sym}
 use native.Mathlib.Omega.{arith}
 use lib.ListN.{get_or-eq_default}
 use Rattle.image.specs.Table.{row_at, image_fields, no_row}
-use borrow.Author.Rules.{rules}
 use Rattle.image.proofs.table.row_at.Goals as goal
 
 pub returns-then-i-lt-FIELD_COUNT : goal.returns-then-i-lt-FIELD_COUNT

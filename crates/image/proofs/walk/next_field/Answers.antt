@@ -4,7 +4,6 @@ use mathlib.Core.Path.{sym}
 use native.Mathlib.Omega.{arith}
 use Rattle.image.specs.Walk.{step_items, step_width}
 use Rattle.image.proofs.Walking.{rest-store, rest-field, rest-none}
-use borrow.Author.Rules.{rules}
 use Rattle.image.proofs.walk.next_field.Goals as goal
 
 pub returns-then-c-ne0 : goal.returns-then-c-ne0
@@ -16,8 +15,7 @@ returns-then-c-ne0 c =
 pub returns-then-c-ne0-2 : goal.returns-then-c-ne0-2
 unfolding step_items step_width
 returns-then-c-ne0-2 c =
-    let a = c.args.c in
-    (
+    let a = c.args.c in (
       sym (rest-field a (a.left - 1) c.row_at-r.result c.row_at-r.ensures c.requires.0 c.requires.1 (omega arith) (omega arith)),
       omega arith,
     )

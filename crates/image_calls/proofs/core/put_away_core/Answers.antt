@@ -7,7 +7,7 @@ use Rattle.image.specs.declared.table.Sizes.{Sizes}
 use Rattle.bank_session.specs.Session.{session}
 use Rattle.image_calls.specs.Calls.{image_length, sizes_right}
 use Rattle.image_calls.proofs.Tests.{sizes-are, lengths-are}
-use Rattle.image_calls.proofs.Putting.{ not_listed, away-lengths, away-short, away-not, away-written, told-listed, told-written, }
+use Rattle.image_calls.proofs.Putting.{not_listed, away-lengths, away-short, away-not, away-written, told-listed, told-written}
 use borrow.Author.Rules.{rules}
 use Rattle.image_calls.proofs.core.put_away_core.Goals as goal
 

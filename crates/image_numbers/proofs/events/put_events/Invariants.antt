@@ -17,7 +17,7 @@ use borrow.Author.Rules.{rules}
 use Rattle.image_numbers.proofs.events.put_events.Given as goal
 
 abbrev pub invariant-loop-i : goal.invariant-loop-i
-invariant-loop-i l =     (l.i ≤ record_count) × (length l.numbers ≡ length l.initial.numbers)
+invariant-loop-i l = (l.i ≤ record_count) × (length l.numbers ≡ length l.initial.numbers)
     × (l.numbers ≡ overwrite l.initial.numbers journal_at (numbers_of event_numbers (take l.i l.row)))
 
 abbrev pub decreases-loop-i : goal.decreases-loop-i

@@ -17,12 +17,11 @@ unfolding rows_of
 loop-i-init c = (search rules, refl, refl)
 
 pub loop-i-preserved : goal.loop-i-preserved
-loop-i-preserved c =
-    (
-      search rules,
-      length-set c.loop-i.row c.loop-i.i c.event_from.result ∙ c.loop-i.invariant.1,
-      row_next c.args.numbers.now c.loop-i.row c.loop-i.i c.event_from.result (omega arith) c.event_from.ensures c.loop-i.invariant.2,
-    )
+loop-i-preserved c = (
+  search rules,
+  length-set c.loop-i.row c.loop-i.i c.event_from.result ∙ c.loop-i.invariant.1,
+  row_next c.args.numbers.now c.loop-i.row c.loop-i.i c.event_from.result (omega arith) c.event_from.ensures c.loop-i.invariant.2,
+)
 
 pub returns : goal.returns
 unfolding row_from

@@ -13,7 +13,7 @@ use borrow.Author.Rules.{rules}
 use Rattle.image_numbers.proofs.events.row_from.Given as goal
 
 abbrev pub invariant-loop-i : goal.invariant-loop-i
-invariant-loop-i l =     (l.i ≤ record_count) × (length l.row ≡ record_count)
+invariant-loop-i l = (l.i ≤ record_count) × (length l.row ≡ record_count)
     × (take l.i l.row ≡ rows_of event_width event_of l.i (drop journal_at l.numbers))
 
 abbrev pub decreases-loop-i : goal.decreases-loop-i

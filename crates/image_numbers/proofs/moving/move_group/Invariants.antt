@@ -12,7 +12,7 @@ use borrow.Author.Rules.{rules}
 use Rattle.image_numbers.proofs.moving.move_group.Given as goal
 
 abbrev pub invariant-loop-i : goal.invariant-loop-i
-invariant-loop-i l =     Moving (records_from l.g (l.g.records - l.i) l.i) l.from l.to l.k (length l.initial.to) (overwrite l.initial.to l.at (numbers_at (group_places l.g) l.from))
+invariant-loop-i l = Moving (records_from l.g (l.g.records - l.i) l.i) l.from l.to l.k (length l.initial.to) (overwrite l.initial.to l.at (numbers_at (group_places l.g) l.from))
 
 abbrev pub decreases-loop-i : goal.decreases-loop-i
 decreases-loop-i l = l.g.records - l.i

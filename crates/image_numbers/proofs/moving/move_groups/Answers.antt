@@ -14,11 +14,10 @@ pub loop-i-init : goal.loop-i-init
 loop-i-init c = record { within = c.requires.0; room = omega arith; long = refl; same = refl }
 
 pub move_group-requires : goal.move_group-requires
-move_group-requires c =
-    (
-      group-there _ _ c.loop-i.invariant (omega arith) c.group_at-g.result c.group_at-g.ensures,
-      group-free _ _ c.loop-i.invariant (omega arith) c.group_at-g.result c.group_at-g.ensures,
-    )
+move_group-requires c = (
+  group-there _ _ c.loop-i.invariant (omega arith) c.group_at-g.result c.group_at-g.ensures,
+  group-free _ _ c.loop-i.invariant (omega arith) c.group_at-g.result c.group_at-g.ensures,
+)
 
 pub overflow_mul-k : goal.overflow_mul-k
 overflow_mul-k c =

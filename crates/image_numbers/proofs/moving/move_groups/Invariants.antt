@@ -11,7 +11,7 @@ use borrow.Author.Rules.{rules}
 use Rattle.image_numbers.proofs.moving.move_groups.Given as goal
 
 abbrev pub invariant-loop-i : goal.invariant-loop-i
-invariant-loop-i l =     Moving (groups_from (l.end - l.i) l.i) l.from l.to l.k (length l.initial.to)
+invariant-loop-i l = Moving (groups_from (l.end - l.i) l.i) l.from l.to l.k (length l.initial.to)
     (overwrite l.initial.to 0 (numbers_at (groups_from (l.end - l.first) l.first) l.from))
 
 abbrev pub decreases-loop-i : goal.decreases-loop-i

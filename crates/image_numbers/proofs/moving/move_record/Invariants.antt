@@ -11,7 +11,7 @@ use borrow.Author.Rules.{rules}
 use Rattle.image_numbers.proofs.moving.move_record.Given as goal
 
 abbrev pub invariant-loop-n : goal.invariant-loop-n
-invariant-loop-n l =     Moving (part_places l.n (l.g.at + l.g.width * l.i) l.parts) l.from l.to l.k (length l.initial.to)
+invariant-loop-n l = Moving (part_places l.n (l.g.at + l.g.width * l.i) l.parts) l.from l.to l.k (length l.initial.to)
     (overwrite l.initial.to l.at (numbers_at (record_places l.g l.i) l.from))
 
 abbrev pub decreases-loop-n : goal.decreases-loop-n

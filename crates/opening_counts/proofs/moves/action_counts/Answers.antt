@@ -1,5 +1,4 @@
 -- By the direction.
-use borrow.Author.Rules.{rules}
 use Rattle.opening_counts.proofs.moves.action_counts.Goals as goal
 
 pub returns-in-Upload : goal.returns-in-Upload

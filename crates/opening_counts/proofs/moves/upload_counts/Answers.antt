@@ -1,5 +1,4 @@
 -- By the action's variant.
-use borrow.Author.Rules.{rules}
 use Rattle.opening_counts.proofs.moves.upload_counts.Goals as goal
 
 pub returns-in-Opened : goal.returns-in-Opened

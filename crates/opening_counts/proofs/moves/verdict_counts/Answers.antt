@@ -1,5 +1,4 @@
 -- By the verdict's action, where it has one.
-use borrow.Author.Rules.{rules}
 use Rattle.opening_counts.proofs.moves.verdict_counts.Goals as goal
 
 pub returns-in-Of : goal.returns-in-Of

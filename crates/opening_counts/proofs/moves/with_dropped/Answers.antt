@@ -1,5 +1,4 @@
 -- The open ones less, and one count more.
-use borrow.Author.Rules.{rules}
 use Rattle.opening_counts.proofs.moves.with_dropped.Goals as goal
 
 pub returns : goal.returns

@@ -2,7 +2,6 @@
 use Prim.Native.Nat.{ℕ, ◌+◌, ◌-◌}
 use mathlib.Core.Path.{◌≡◌}
 use native.Mathlib.Omega.{arith}
-use borrow.Author.Rules.{rules}
 use Rattle.opening_counts.proofs.moves.with_fetched.Goals as goal
 
 twice : (n others : ℕ) → n - 1 - others ≡ n - (1 + others)

@@ -1,8 +1,6 @@
 -- The seven counts are looked at in the definition's order; what is passed is carried from test to test.
 use mathlib.Core.Bool.{Bool, true, ◌&&◌}
 use mathlib.Core.Path.{◌≡◌, sym, ◌∙◌}
-use borrow.Author.Rules.{rules}
-use borrow.Author.Tests.{not-true, not-false}
 use Rattle.opening_counts.specs.declared.seven.Counts.{Counts}
 use Rattle.opening_counts.specs.Counts.{fits, can_grow}
 use Rattle.opening_counts.proofs.seven.can_grow.Goals as goal

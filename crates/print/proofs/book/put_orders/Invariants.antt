@@ -11,7 +11,7 @@ use Rattle.print.proofs.Lengths.{order-most}
 use Rattle.print.proofs.book.put_orders.Given as goal
 
 abbrev pub invariant-loop-i : goal.invariant-loop-i
-invariant-loop-i l =     Rows (line_at (bank_of l.rows)) order_columns_room place_count l.initial.output l.at l.i l.output l.end
+invariant-loop-i l = Rows (line_at (bank_of l.rows)) order_columns_room place_count l.initial.output l.at l.i l.output l.end
 
 abbrev pub decreases-loop-i : goal.decreases-loop-i
 decreases-loop-i l = place_count - l.i

@@ -12,7 +12,7 @@ use Rattle.print.proofs.Digits.{length-digits_in, digits_step}
 use Rattle.print.proofs.text.put_digits.Given as goal
 
 abbrev pub invariant-loop-i : goal.invariant-loop-i
-invariant-loop-i l =     (l.i ≤ l.w) × (length l.output ≡ length l.initial.output)
+invariant-loop-i l = (l.i ≤ l.w) × (length l.output ≡ length l.initial.output)
     × (overwrite l.initial.output l.at (digits_in l.base l.first l.w l.x) ≡ overwrite l.output l.at (digits_in l.base l.first l.i l.rest))
 
 abbrev pub decreases-loop-i : goal.decreases-loop-i

@@ -6,7 +6,7 @@ use lib.ListN.{length}
 use borrow.Author.Tests.{not-true, not-false}
 use Rattle.bank_steps.specs.Lent.{lent}
 use Rattle.unit_state.specs.declared.record.Kind.{Kind}
-use Rattle.unit_state.specs.declared.record.Kind.TheVariants.{ Frame, File, Run, Journal, Away, TakeUp, Image, ValueDay, MakeLine, PutIn, Counts, NoCall, }
+use Rattle.unit_state.specs.declared.record.Kind.TheVariants.{Frame, File, Run, Journal, Away, TakeUp, Image, ValueDay, MakeLine, PutIn, Counts, NoCall}
 use Rattle.unit_rows.specs.Rows.{unit_from}
 use Rattle.unit_rows.specs.Lines.{lines_of}
 use Rattle.unit.specs.State.{State, memory, state_of}

@@ -11,13 +11,12 @@ nonce_for-nonce-requires c =
     λ h. omega (arith, begin-head c.args.event (sym c.begins-begin.ensures ∙ h), c.requires.1.head)
 
 pub keep_payload-requires : goal.keep_payload-requires
-keep_payload-requires c =
-    (
-      c.requires.0,
-      c.requires.1.payload-rooms,
-      kept-fits c.args.event _ _ c.args.«record».now _ _ _ _ _ _ c.begins-begin.ensures
-          c.payload_for.ensures c.body_of-body.ensures c.room_call-o.ensures c.keeps-kept.ensures,
-    )
+keep_payload-requires c = (
+  c.requires.0,
+  c.requires.1.payload-rooms,
+  kept-fits c.args.event _ _ c.args.«record».now _ _ _ _ _ _ c.begins-begin.ensures
+      c.payload_for.ensures c.body_of-body.ensures c.room_call-o.ensures c.keeps-kept.ensures,
+)
 
 pub returns : goal.returns
 returns c =

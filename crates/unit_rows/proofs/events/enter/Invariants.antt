@@ -15,14 +15,14 @@ use Rattle.unit_rows.proofs.Rows.{entering-row, given-on, moved_on}
 use Rattle.unit_rows.proofs.events.enter.Given as goal
 
 abbrev pub invariant-loop-i : goal.invariant-loop-i
-invariant-loop-i l =     (l.initial.i ≤ l.i) × (l.i ≤ l.start)
+invariant-loop-i l = (l.initial.i ≤ l.i) × (l.i ≤ l.start)
     × (journal_from l.row ≡ mixed l.i (row_after l.events l.clock l.batch (journal_from l.initial.row)) (journal_from l.initial.row))
 
 abbrev pub decreases-loop-i : goal.decreases-loop-i
 decreases-loop-i l = l.start - l.i
 
 abbrev pub invariant-loop-i-2 : goal.invariant-loop-i-2
-invariant-loop-i-2 l =     (l.start ≤ l.i) × (l.i ≤ l.end)
+invariant-loop-i-2 l = (l.start ≤ l.i) × (l.i ≤ l.end)
     × ((zs xs : List Event) → length zs ≡ length xs → journal_from l.initial.row ≡ mixed l.initial.i zs xs
     → ((k : ℕ) → l.start ≤ k → k < l.end → event_at l.events l.clock l.batch (k - l.start) ≡ get_or zs k no_event)
     → journal_from l.row ≡ mixed l.i zs xs)

@@ -12,8 +12,7 @@ use Rattle.unit_rows.proofs.events.journal_of.Goals as goal
 
 pub loop-i-preserved : goal.loop-i-preserved
 loop-i-preserved c =
-    let row = c.args.row.now in
-    (
+    let row = c.args.row.now in (
       search rules,
       length-set c.loop-i.held c.loop-i.i c.record_at.result ∙ c.loop-i.invariant.1,
       ap (λ (x : Event). take (c.loop-i.i + 1) (set c.loop-i.held c.loop-i.i x)) c.record_at.ensures

@@ -11,8 +11,7 @@ use Rattle.unit_rows.proofs.events.set_journal.Goals as goal
 
 pub loop-i-preserved : goal.loop-i-preserved
 loop-i-preserved c =
-    let held = c.args.held in
-    (
+    let held = c.args.held in (
       search rules,
       ap (take (c.loop-i.i + 1)) c.set_record.ensures
           ∙ copied_next (journal_from c.loop-i.row) held c.loop-i.i _ (omega (arith, length-journal c.loop-i.row)) (omega arith) c.loop-i.invariant.1,

@@ -14,8 +14,7 @@ use Rattle.unit_rows.proofs.whole.runs_of.Goals as goal
 
 pub loop-i-preserved : goal.loop-i-preserved
 loop-i-preserved c =
-    let a = c.args in
-    (
+    let a = c.args in (
       search rules,
       length-set c.loop-i.held c.loop-i.i c.run_at.result ∙ c.loop-i.invariant.1,
       ap (λ (x : Run). take (c.loop-i.i + 1) (set c.loop-i.held c.loop-i.i x)) c.run_at.ensures

@@ -13,7 +13,7 @@ use borrow.Author.Rules.{rules}
 use Rattle.unit_rows.proofs.whole.runs_of.Given as goal
 
 abbrev pub invariant-loop-i : goal.invariant-loop-i
-invariant-loop-i l =     (l.i ≤ run_count) × (length l.held ≡ run_count) × (take l.i l.held ≡ take l.i (runs_from l.runs l.nonces))
+invariant-loop-i l = (l.i ≤ run_count) × (length l.held ≡ run_count) × (take l.i l.held ≡ take l.i (runs_from l.runs l.nonces))
 
 abbrev pub decreases-loop-i : goal.decreases-loop-i
 decreases-loop-i l = run_count - l.i
