@@ -4,7 +4,7 @@ ghost use Rattle.std.specs.Prelude.{◌≡◌};
 ghost use Rattle.bank_session.specs.Session.{session};
 ghost use Rattle.image_calls.specs.Calls.{put_away_of, put_away, take_up_of, take_up};
 
-use crate::core::{put_away_core, take_up_core};
+use crate::told::{put_away_core, take_up_core};
 use journal::event::Event;
 use journal::row::{held_row, replace_row};
 

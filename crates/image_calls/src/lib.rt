@@ -2,5 +2,5 @@
 #![tactic(auto)]
 
 pub mod calls;
-pub mod core;
 pub mod held;
+pub mod told;

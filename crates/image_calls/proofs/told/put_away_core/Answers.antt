@@ -9,7 +9,7 @@ use Rattle.image_calls.specs.Calls.{image_length, sizes_right}
 use Rattle.image_calls.proofs.Tests.{sizes-are, lengths-are}
 use Rattle.image_calls.proofs.Putting.{not_listed, away-lengths, away-short, away-not, away-written, told-listed, told-written}
 use borrow.Author.Rules.{rules}
-use Rattle.image_calls.proofs.core.put_away_core.Goals as goal
+use Rattle.image_calls.proofs.told.put_away_core.Goals as goal
 
 pub returns-then-not-sizes_right : goal.returns-then-not-sizes_right
 returns-then-not-sizes_right c l e k =

@@ -3,7 +3,7 @@ use native.Mathlib.Omega.{arith}
 use Rattle.image_calls.proofs.Tests.{image-short}
 use Rattle.image_calls.proofs.Taking.{places-within, parts-listed}
 use borrow.Author.Rules.{rules}
-use Rattle.image_calls.proofs.core.holds_list.Goals as goal
+use Rattle.image_calls.proofs.told.holds_list.Goals as goal
 
 pub overflow_add-orders_end : goal.overflow_add-orders_end
 overflow_add-orders_end c =

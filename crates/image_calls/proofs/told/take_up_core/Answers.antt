@@ -8,7 +8,7 @@ use Rattle.image_calls.specs.Calls.{sizes_right, is_admitted_image}
 use Rattle.image_calls.proofs.Tests.{store-size, sizes-are, lengths-are}
 use Rattle.image_calls.proofs.Taking.{stores-taken, admitted-long, up-lengths, up-not, refused-is, done-is}
 use borrow.Author.Rules.{rules}
-use Rattle.image_calls.proofs.core.take_up_core.Goals as goal
+use Rattle.image_calls.proofs.told.take_up_core.Goals as goal
 
 pub returns-then-not-sizes_right : goal.returns-then-not-sizes_right
 returns-then-not-sizes_right c l e =

@@ -3,7 +3,7 @@ use borrow.Author.Tests.{eq-eqb, ne_eqb}
 use Rattle.journal.specs.Events.{record_count}
 use Rattle.bank_state.specs.Limits.{store_bytes}
 use Rattle.bank_session.specs.Session.{session_size}
-use Rattle.image_calls.proofs.core.sizes_right.Goals as goal
+use Rattle.image_calls.proofs.told.sizes_right.Goals as goal
 
 pub returns-then-rows-ne-SESSION_SIZE : goal.returns-then-rows-ne-SESSION_SIZE
 returns-then-rows-ne-SESSION_SIZE c =

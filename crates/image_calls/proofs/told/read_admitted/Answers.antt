@@ -3,7 +3,7 @@ use Rattle.std.specs.Prelude.{◌≡◌, ℕ}
 use native.Mathlib.Omega.{arith}
 use Rattle.image_calls.proofs.Taking.{image-done, admitted-done, admitted-other}
 use borrow.Author.Rules.{rules}
-use Rattle.image_calls.proofs.core.read_admitted.Goals as goal
+use Rattle.image_calls.proofs.told.read_admitted.Goals as goal
 
 pub holds_list-requires : goal.holds_list-requires
 holds_list-requires c =
