@@ -105,13 +105,13 @@ not-both h e = never (sym (ap not e) ∙ h)
 pub both : {a b : Bool} → a ≡ true → b ≡ true → a && b ≡ true
 both e h = λ x. e x && h x
 
-abbrev same_bytes : List ℕ → List ℕ → Bool
+abbrev pub same_bytes : List ℕ → List ℕ → Bool
 same_bytes [] [] = true
 same_bytes [] (b ∷ m) = false
 same_bytes (a ∷ l) [] = false
 same_bytes (a ∷ l) (b ∷ m) = eqb a b && same_bytes l m
 
-same_bytes_lem : (l m : List ℕ) → same_bytes l m ≡ true → l ≡ m
+pub same_bytes_lem : (l m : List ℕ) → same_bytes l m ≡ true → l ≡ m
 same_bytes_lem [] [] h = refl
 same_bytes_lem [] (b ∷ m) h = never h
 same_bytes_lem (a ∷ l) [] h = never h

@@ -1,7 +1,7 @@
 -- An upload over lines of seed 590, which hold the first message, lose the second and double the third: it closes as
 -- lodged, and its order is in the book. Assumes nothing.
 use Prim.Native.Nat.{ℕ}
-use mathlib.Core.Bool.{true}
+use mathlib.Core.Bool.{Bool, true, false, ◌&&◌}
 use mathlib.Core.List.{List, [], ◌∷◌, append-nil}
 use mathlib.Core.Path.{◌≡◌, refl, sym, ap, ◌∙◌, subst}
 use Rattle.bank_admitted.specs.State.{StateHolds}
@@ -16,7 +16,8 @@ use Rattle.exchange.specs.Course.{Course, start, after}
 use Rattle.exchange.specs.Terms.{Order, name_of, InBook, OrderOf}
 use Rattle.exchange.specs.Demand3.{OneExchangeNumber, Outcome}
 use Rattle.exchange_examples.proofs.Unfolded.{both_ends}
-use Rattle.exchange_examples.proofs.Checked.{request_at, reply_at, is_numbered, one_number}
+use Rattle.exchange_examples.proofs.Checked.{request_at, reply_at, is_numbered, one_number, same_bytes, same_bytes_lem}
+use Rattle.octets.proofs.Tests.{never, and-true}
 use Rattle.exchange_lines.specs.Lines.{Lines, Net, Seeds, Move, calls_of, fresh_net, carry, net_after}
 use Rattle.exchange_lines.specs.Claims.{AtEach, of_call, OverLine, Others, LinesClose}
 use Rattle.exchange_lines.specs.InOrder.{none_handed, OnceInOrder}
@@ -66,10 +67,45 @@ record Lossy (s : Course) (ls : Lines) : Type 0 where
   requests : (ls.requests 0).out ≡ request_at 1 s ∷ request_at 1 s ∷ request_at 3 s ∷ request_at 0 s ∷ []
   replies : (ls.replies 0).out ≡ reply_at 1 s ∷ reply_at 1 s ∷ reply_at 3 s ∷ reply_at 0 s ∷ []
 
-bad-line-lossy : let n = (quick_end bad_line fresh).net in Lossy n.course n.lines
+-- whether two lists of messages are the same
+abbrev same_messages : List (List ℕ) → List (List ℕ) → Bool
+same_messages [] [] = true
+same_messages [] (y ∷ m) = false
+same_messages (x ∷ l) [] = false
+same_messages (x ∷ l) (y ∷ m) = same_bytes x y && same_messages l m
+
+same_messages_lem : (l m : List (List ℕ)) → same_messages l m ≡ true → l ≡ m
+same_messages_lem [] [] h = refl
+same_messages_lem [] (y ∷ m) h = never h
+same_messages_lem (x ∷ l) [] h = never h
+same_messages_lem (x ∷ l) (y ∷ m) h =
+    let o = and-true (same_bytes x y) (same_messages l m) h in
+    let e = same_bytes_lem x y o.0 in
+    let r = same_messages_lem l m o.1 in
+    λ i. e i ∷ r i
+
+abbrev came : Net → List (List ℕ)
+came n = request_at 1 n.course ∷ request_at 1 n.course ∷ request_at 3 n.course ∷ request_at 0 n.course ∷ []
+
+abbrev came_back : Net → List (List ℕ)
+came_back n = reply_at 1 n.course ∷ reply_at 1 n.course ∷ reply_at 3 n.course ∷ reply_at 0 n.course ∷ []
+
+-- the same as one test, which is computed at less cost than the two equations
+abbrev is_lossy : Net → Bool
+is_lossy n = same_messages (n.lines.requests 0).out (came n) && same_messages (n.lines.replies 0).out (came_back n)
+
+lossy : is_lossy (quick_end bad_line fresh).net ≡ true
 unfolding both_ends generator.left_xor generator.right_xor generator.moved line.decision line.carried_out line.stepped line.put
     line.out_of carry fresh_net
-bad-line-lossy = record { requests = refl; replies = refl }
+lossy = refl
+
+told-lossy : (n : Net) → is_lossy n ≡ true → Lossy n.course n.lines
+told-lossy n h =
+    let o = and-true (same_messages (n.lines.requests 0).out (came n)) (same_messages (n.lines.replies 0).out (came_back n)) h in
+    record { requests = same_messages_lem _ _ o.0; replies = same_messages_lem _ _ o.1 }
+
+bad-line-lossy : let n = (quick_end bad_line fresh).net in Lossy n.course n.lines
+bad-line-lossy = told-lossy (quick_end bad_line fresh).net lossy
 
 -- ---- the theorem applied
 

@@ -21,7 +21,7 @@ pub struct Run {
 }
 
 // The client runs, and the journal as the bank last left it.
-#[derive(Drop)]
+#[derive(Clone, Copy)]
 pub struct UnitState {
     pub runs: [Run; RUN_COUNT],
     pub journal: [Event; RECORD_COUNT],
