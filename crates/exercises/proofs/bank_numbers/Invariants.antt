@@ -1,8 +1,7 @@
 -- The measure is the number of numbers that are left; the bank's numbers keep their count. Assumes nothing.
-use Prim.Native.Nat.{ℕ, ◌-◌}
-use mathlib.Core.Path.{◌≡◌, ◌∙◌}
-use lib.ListN.{length, length-set, length-replicate}
-use borrow.Author.Rules.{rules}
+use Prim.Native.Nat.{◌-◌}
+use mathlib.Core.Path.{◌≡◌}
+use lib.ListN.{length}
 use Rattle.bank_rows.specs.Layout.{state_size}
 use Rattle.exercises.proofs.bank_numbers.Given as goal
 

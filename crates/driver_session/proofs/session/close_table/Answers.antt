@@ -1,7 +1,6 @@
 -- `close_table` is safe: the bank's numbers are the first of the session's. Assumes nothing.
 use native.Mathlib.Omega.{arith}
 use lib.ListN.{length-take}
-use borrow.Author.Rules.{rules}
 use Rattle.driver_session.proofs.session.close_table.Goals as goal
 
 pub slice_bounds-bank-end : goal.slice_bounds-bank-end

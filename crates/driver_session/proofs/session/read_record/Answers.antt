@@ -1,7 +1,6 @@
 -- `read_record` is safe: a head and a length of two bytes. Assumes nothing.
 use native.Mathlib.Omega.{arith}
 use Rattle.unit_state.proofs.Parts.{size_of-most, head-within}
-use borrow.Author.Rules.{rules}
 use Rattle.driver_session.proofs.session.read_record.Goals as goal
 
 pub overflow_add-end : goal.overflow_add-end

@@ -1,7 +1,6 @@
 -- The arrays are zeroed where the calls begin, and the unit is what they leave. Assumes nothing.
 use Rattle.driver_session.specs.Session.{start}
 use Rattle.driver_session.proofs.Sessions.{zeros-calls, session-of}
-use borrow.Author.Rules.{rules}
 use Rattle.driver_session.proofs.session.session.Goals as goal
 
 pub returns : goal.returns

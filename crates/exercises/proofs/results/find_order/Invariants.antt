@@ -1,7 +1,5 @@
 -- The measure is the number of places that are left. Assumes nothing.
 use Prim.Native.Nat.{◌-◌, ◌≤◌}
-use native.Mathlib.Omega.{arith}
-use borrow.Author.Rules.{rules}
 use Rattle.bank_state.specs.Limits.{place_count}
 use Rattle.exercises.proofs.results.find_order.Given as goal
 

@@ -1,8 +1,6 @@
 -- The measure is the number of bytes that are left; the tests keep both reads inside. Assumes nothing.
 use Prim.Native.Nat.{◌-◌, ◌≤◌}
-use native.Mathlib.Omega.{arith}
 use lib.ListN.{length}
-use borrow.Author.Rules.{rules}
 use Rattle.exercises.proofs.results.same_bytes.Given as goal
 
 abbrev pub invariant-loop-i : goal.invariant-loop-i
