@@ -129,6 +129,7 @@ fn conditions(numbers: &[u64], orders: &[u8], mailboxes: &[u8]) -> bool
 }
 
 // Whether the session is one of the list; no other lengths are.
+#[tactic(auto, using(octets::proofs::Tests::tests), unfolding(crate::specs::Conditions::admitted))]
 pub fn admitted(numbers: &[u64], orders: &[u8], mailboxes: &[u8]) -> bool
     ensures { result ≡ admitted numbers.now orders.now mailboxes.now }
 {
