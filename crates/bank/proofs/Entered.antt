@@ -1,4 +1,6 @@
 -- What a frame call enters into the journal: the drops, then what its request enters. Assumes nothing.
+use Rattle.number_table.specs.declared.table.WrongLength.{WrongLength}
+use Rattle.std.specs.Prelude.{Ok, Result}
 use Prim.Native.Nat.{ℕ}
 use mathlib.Core.Bool.{true}
 use mathlib.Core.List.{List, [], ◌++◌, map}
@@ -20,8 +22,6 @@ use Rattle.bank_steps.specs.Lent.{Lent, state_of}
 use Rattle.journal.specs.declared.event.Entry.{Entry}
 use Rattle.journal.specs.declared.event.Batch.{Batch}
 use Rattle.bank_events.specs.Entries.{Holds, drop_entry, dropped_uploads, verdict_order, named_order, action_entries, call_entries}
-use Rattle.bank.specs.declared.call.FrameAnswer.{FrameAnswer}
-use Rattle.bank.specs.declared.call.FrameAnswer.TheVariants.{Reply}
 use Rattle.bank.specs.declared.call.FrameOut.{FrameOut}
 use Rattle.bank.specs.Call.{respond, FrameInput, context_of, call_verdict, verdict_by}
 use Rattle.bank.specs.Journal.{clock_by, request_entries, entered_by, if_answered}
@@ -45,12 +45,12 @@ pub none-judged : {o : FrameOut} {x : Verdict} → o ≡ no_reply → x ≡ verd
 none-judged e f v = rw e f
 
 -- a reply leaves the events
-pub answered-entered : {a : FrameAnswer} {n : ℕ} {batch : Batch} {es : List Entry} → a ≡ Reply n → Holds batch es
+pub answered-entered : {a : Result ℕ WrongLength} {n : ℕ} {batch : Batch} {es : List Entry} → a ≡ Ok n → Holds batch es
     → Holds batch (if_answered a es)
 answered-entered e h = rw e h
 
 -- and the verdict
-pub answered-judged : {a : FrameAnswer} {n : ℕ} {x v : Verdict} → a ≡ Reply n → x ≡ v → x ≡ verdict_by a v
+pub answered-judged : {a : Result ℕ WrongLength} {n : ℕ} {x v : Verdict} → a ≡ Ok n → x ≡ v → x ≡ verdict_by a v
 answered-judged e f = rw e f
 
 -- the whole call

@@ -1,5 +1,7 @@
 -- The rows that a call leaves pass the test of the next call, and are the bank that the call leaves; a file call given a
 -- number leaves them as they were. Assumes nothing.
+use Rattle.bank.specs.declared.mailbox.FileRefusal.{FileRefusal}
+use Rattle.std.specs.Prelude.{Err, Ok, Result}
 use Prim.Native.Nat.{ℕ, ◌-◌, ◌<◌}
 use mathlib.Core.Bool.{true}
 use mathlib.Core.List.{List}
@@ -22,8 +24,7 @@ use Rattle.bank_sound.proofs.Test.{sound-laid, sound-range, stored-sound}
 use Rattle.bank_steps.specs.Lent.{Lent, state_of}
 use Rattle.bank_steps.proofs.Held.{held-judged}
 use Rattle.bank_steps.proofs.Range.{stored-range, range-judged}
-use Rattle.bank.specs.declared.mailbox.FileAnswer.{FileAnswer}
-use Rattle.bank.specs.declared.mailbox.FileAnswer.TheVariants as answers
+use Rattle.bank.specs.declared.mailbox.FileRefusal.TheVariants as answers
 use Rattle.bank.specs.Call.{respond, FrameInput, context_of, FrameCall, lent_right, frame_call}
 use Rattle.bank.specs.Mailbox.{file_refusals, refused_file, carry_out_file, file_call}
 use Rattle.bank.specs.Lent.{lent_frame_call, lent_file_call_of, kept_file, LentFileCall, lent_file_call}
@@ -78,31 +79,31 @@ module _ (s : List ℕ) (mailbox : ℕ) (file mailboxes : List ℕ) (sound : is_
   abbrev left : Bank
   left = (file_call (bank_of s) mailbox file mailboxes).bank
 
-  abbrev judged : FileAnswer
-  judged = decide (file_refusals (bank_of s) mailbox file mailboxes) answers.Done
+  abbrev judged : Result (Unit {0}) FileRefusal
+  judged = decide (file_refusals (bank_of s) mailbox file mailboxes) (Ok tt)
 
   own : Held (bank_of s)
   own = held_rows s (sound-laid s sound)
 
-  held_by_lem : (x : FileAnswer) → Held (carry_out_file x (bank_of s) mailbox file mailboxes).bank
-  held_by_lem answers.Done = held-file (mailbox - 1) (length file) own
-  held_by_lem answers.WrongLength = own
-  held_by_lem answers.NoMailbox = own
-  held_by_lem answers.WrongFile = own
-  held_by_lem answers.MailboxFull = own
+  held_by_lem : (x : Result (Unit {0}) FileRefusal) → Held (carry_out_file x (bank_of s) mailbox file mailboxes).bank
+  held_by_lem (Ok u) = held-file (mailbox - 1) (length file) own
+  held_by_lem (Err answers.WrongLength) = own
+  held_by_lem (Err answers.NoMailbox) = own
+  held_by_lem (Err answers.WrongFile) = own
+  held_by_lem (Err answers.MailboxFull) = own
 
   pub file-held : Held left
   unfolding file_call
   file-held = held_by_lem judged
 
-  range-by : (x : FileAnswer) → judged ≡ x → InRange (carry_out_file x (bank_of s) mailbox file mailboxes).bank
-  range-by answers.Done told =
+  range-by : (x : Result (Unit {0}) FileRefusal) → judged ≡ x → InRange (carry_out_file x (bank_of s) mailbox file mailboxes).bank
+  range-by (Ok u) told =
       let fits = file-fits (bank_of s) mailbox file mailboxes told in
       stored-range (sound-range s sound) mailbox (length file) fits.2 fits.4
-  range-by answers.WrongLength told = sound-range s sound
-  range-by answers.NoMailbox told = sound-range s sound
-  range-by answers.WrongFile told = sound-range s sound
-  range-by answers.MailboxFull told = sound-range s sound
+  range-by (Err answers.WrongLength) told = sound-range s sound
+  range-by (Err answers.NoMailbox) told = sound-range s sound
+  range-by (Err answers.WrongFile) told = sound-range s sound
+  range-by (Err answers.MailboxFull) told = sound-range s sound
 
   pub file-range : InRange left
   unfolding file_call
@@ -121,20 +122,20 @@ module _ (s : List ℕ) (mailbox : ℕ) (file mailboxes : List ℕ) where
   abbrev Unchanged : LentFileCall → Type 0
   Unchanged c = 0 < c.number → c ≡ lent_file_call_of c.answer s mailboxes
 
-  refused-same : Laid s → (x : FileAnswer) →
+  refused-same : Laid s → (x : Result (Unit {0}) FileRefusal) →
       kept_file s (refused_file x (bank_of s) mailboxes) ≡ lent_file_call_of x s mailboxes
   refused-same l x = ap (λ (rows : List ℕ). lent_file_call_of x rows mailboxes) (stored-own s l)
 
-  unchanged-by : Laid s → (x : FileAnswer) → Unchanged (kept_file s (carry_out_file x (bank_of s) mailbox file mailboxes))
-  unchanged-by l answers.Done z = absurd (omega arith)
-  unchanged-by l answers.WrongLength z = refused-same l answers.WrongLength
-  unchanged-by l answers.NoMailbox z = refused-same l answers.NoMailbox
-  unchanged-by l answers.WrongFile z = refused-same l answers.WrongFile
-  unchanged-by l answers.MailboxFull z = refused-same l answers.MailboxFull
+  unchanged-by : Laid s → (x : Result (Unit {0}) FileRefusal) → Unchanged (kept_file s (carry_out_file x (bank_of s) mailbox file mailboxes))
+  unchanged-by l (Ok u) z = absurd (omega arith)
+  unchanged-by l (Err answers.WrongLength) z = refused-same l (Err answers.WrongLength)
+  unchanged-by l (Err answers.NoMailbox) z = refused-same l (Err answers.NoMailbox)
+  unchanged-by l (Err answers.WrongFile) z = refused-same l (Err answers.WrongFile)
+  unchanged-by l (Err answers.MailboxFull) z = refused-same l (Err answers.MailboxFull)
 
   pub file-unchanged : Unchanged (lent_file_call s mailbox file mailboxes)
   unfolding lent_file_call file_call
   file-unchanged =
       by-test Unchanged (is_sound s)
-      (λ e. unchanged-by (sound-laid s e) (decide (file_refusals (bank_of s) mailbox file mailboxes) answers.Done))
+      (λ e. unchanged-by (sound-laid s e) (decide (file_refusals (bank_of s) mailbox file mailboxes) (Ok tt)))
       (λ _ _. refl)

@@ -1,4 +1,6 @@
 -- The bank's calls on lent rows: the rows after a call are those of the bank that the definition leaves. Assumes nothing.
+use Rattle.number_table.specs.declared.table.WrongLength.{WrongLength}
+use Rattle.std.specs.Prelude.{Result}
 use Prim.Native.Nat.{ℕ}
 use mathlib.Core.Bool.{Bool, true, false, cond}
 use mathlib.Core.List.{List}
@@ -29,7 +31,6 @@ use Rattle.bank_steps.specs.Steps.{carry_out}
 use Rattle.bank_steps.specs.Lent.{Lent, lent, state_of, kept_in, Prepared}
 use Rattle.bank_steps.proofs.Held.{held-judged}
 use Rattle.bank_steps.proofs.Lent.{unchanged}
-use Rattle.bank.specs.declared.call.FrameAnswer.{FrameAnswer}
 use Rattle.bank.specs.Call.{file_segment, mailbox_segment, step_by, respond}
 use Rattle.bank.specs.Call.{frame_number, SentAs, replied, FrameInput, context_of, lent_right}
 use Rattle.bank.specs.Call.{FrameCall, frame_refused, frame_call}
@@ -53,7 +54,7 @@ same-segment (verdict.Of t (action.Download down.Declined)) w q d s size = refl
 same-segment (verdict.Signed n added) w q d s size = refl
 
 pub respond-kept : (m : Lent) (v : Verdict) (q : Fields) (d : List ℕ) {u : Verdict} {x : Lent} {n k : ℕ}
-    {buffer after : List ℕ} {a : FrameAnswer} → u ≡ v → x ≡ kept_in m (carry_out v (state_of m) q d)
+    {buffer after : List ℕ} {a : Result ℕ WrongLength} → u ≡ v → x ≡ kept_in m (carry_out v (state_of m) q d)
     → n ≡ file_length (subscriber q) (bank_of m.rows).files
     → SentAs (reply_to u q) (file_segment x.mailboxes (subscriber q) n (segment_in u q)) buffer a k after
     → ◌≡◌ {A = LentFrameCall} (record { lent = x; buffer = after; answer = a; number = frame_number a; code = k })

@@ -1,9 +1,10 @@
 -- A frame arrives: the lent lengths, the clock and the drops, the reading, the verdict carried out, and the reply.
+use Rattle.number_table.specs.Numbers.{number_one}
+use Rattle.number_table.specs.declared.table.WrongLength.{WrongLength}
+use Rattle.std.specs.Prelude.{Err, Ok, Result}
 use Rattle.std.specs.Prelude.{ℕ, ◌-◌, ◌^◌, ◌≤◌, ◌<◌, ◌≡◌, Bool, true, cond, ◌&&◌, List, [], leb, eqb, length, take}
 use Rattle.number_table.specs.Table as numbers
 use Rattle.frame_table.specs.declared.fields.Fields.{Fields}
-use Rattle.frame_writer.specs.declared.writer.Written.{Written}
-use Rattle.frame_writer.specs.declared.writer.Written.TheVariants as written
 use Rattle.octets.specs.Bytes.{number}
 use Rattle.frame_table.specs.Names.{phase, subscriber, exchange, transaction, return_code, form}
 use Rattle.frame_reader.specs.Reader.{read_request, read_reply}
@@ -21,8 +22,6 @@ use Rattle.bank_verdicts.specs.declared.verdict.Verdict.TheVariants as verdict
 use Rattle.bank_verdicts.specs.Judgement.{judge}
 use Rattle.bank_verdicts.specs.Replies.{reply_to, segment_in}
 use Rattle.bank_steps.specs.Steps.{carry_out}
-use Rattle.bank.specs.declared.call.FrameAnswer.{FrameAnswer}
-use Rattle.bank.specs.declared.call.FrameAnswer.TheVariants.{Reply, WrongLength}
 
 -- what a request comes to: its verdict, the bank and its stores after it, and the reply's fields and data
 pub record Step : Type 0 where
@@ -68,26 +67,26 @@ unfoldable pub respond : Context → BankState → Fields → List ℕ → Step
 respond c w q d = step_by (judge c w.bank q (length d)) w q d
 
 -- the reply written: "reply bytes behind the reply are untouched"
-abbrev pub answer_of : Written → FrameAnswer
-answer_of (written.Length n) = Reply n
-answer_of written.Refused = WrongLength
+abbrev pub answer_of : Result ℕ WrongLength → Result ℕ WrongLength
+answer_of (Ok n) = Ok n
+answer_of (Err e) = Err number_one
 
 -- document 01's number for an answer, 0 where there is a reply
-abbrev pub frame_number : FrameAnswer → ℕ
-frame_number (Reply n) = 0
-frame_number WrongLength = numbers.wrong_length
+abbrev pub frame_number : Result ℕ WrongLength → ℕ
+frame_number (Ok n) = 0
+frame_number (Err e) = numbers.wrong_length
 
 -- the return code of the reply in the buffer; 0 where there is none
-abbrev pub reply_code : FrameAnswer → List ℕ → ℕ
-reply_code (Reply n) buffer = return_code (read_reply (take n buffer))
-reply_code WrongLength buffer = 0
+abbrev pub reply_code : Result ℕ WrongLength → List ℕ → ℕ
+reply_code (Ok n) buffer = return_code (read_reply (take n buffer))
+reply_code (Err e) buffer = 0
 
 -- a reply, f with the data d, that can be written into old
 abbrev pub Sendable : Fields → List ℕ → List ℕ → Type 0
 Sendable f d old = (accepted f d old ≡ true) × (is_reply_form (form f) ≡ true)
 
 -- what is left where f with the data d was to be written into old
-pub record SentAs (f : Fields) (d old : List ℕ) (a : FrameAnswer) (code : ℕ) (buffer : List ℕ) : Type 0 where
+pub record SentAs (f : Fields) (d old : List ℕ) (a : Result ℕ WrongLength) (code : ℕ) (buffer : List ℕ) : Type 0 where
   pub answered : a ≡ answer_of (write_answer f d old)
   pub written : buffer ≡ write_buffer f d old
   pub coded : code ≡ reply_code (answer_of (write_answer f d old)) (write_buffer f d old)
@@ -96,7 +95,7 @@ pub record SentAs (f : Fields) (d old : List ℕ) (a : FrameAnswer) (code : ℕ)
 pub record FrameCall : Type 0 where
   pub bank_state : BankState
   pub buffer : List ℕ
-  pub answer : FrameAnswer
+  pub answer : Result ℕ WrongLength
   pub number : ℕ
   pub code : ℕ
 
@@ -148,7 +147,7 @@ pub record RightInput (a : FrameInput) : Type 0 where
 -- number 1, nothing changed
 abbrev pub frame_refused : BankState → FrameInput → FrameCall
 frame_refused w a =
-    record { bank_state = w; buffer = a.buffer; answer = WrongLength; number = frame_number WrongLength; code = 0 }
+    record { bank_state = w; buffer = a.buffer; answer = Err number_one; number = frame_number (Err number_one); code = 0 }
 
 -- a frame arrives
 unfoldable pub frame_call : BankState → FrameInput → FrameCall
@@ -164,6 +163,6 @@ call_verdict w a =
     (respond (context_of a) (advanced a.time w) (read_request a.frame) (data_of a.frame)).verdict
 
 -- a call given number 1 has none: one that does nothing stands for it
-abbrev pub verdict_by : FrameAnswer → Verdict → Verdict
-verdict_by (Reply n) v = v
-verdict_by WrongLength v = verdict.Unreadable
+abbrev pub verdict_by : Result ℕ WrongLength → Verdict → Verdict
+verdict_by (Ok n) v = v
+verdict_by (Err e) v = verdict.Unreadable

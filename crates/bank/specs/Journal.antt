@@ -1,4 +1,6 @@
 -- What an answered frame call enters into the journal, and the journal after it.
+use Rattle.number_table.specs.declared.table.WrongLength.{WrongLength}
+use Rattle.std.specs.Prelude.{Err, Ok, Result}
 use Rattle.std.specs.Prelude.{ℕ, ◌+◌, max, List, [], length}
 use Rattle.frame_table.specs.declared.fields.Fields.{Fields}
 use Rattle.frame_reader.specs.Reader.{read_request}
@@ -10,8 +12,6 @@ use Rattle.journal.specs.declared.event.Entry.{Entry}
 use Rattle.journal.specs.Events.{events_from}
 use Rattle.journal.specs.Row.{Journal, entered_all}
 use Rattle.bank_events.specs.Entries.{order_in, action_entries, call_entries}
-use Rattle.bank.specs.declared.call.FrameAnswer.{FrameAnswer}
-use Rattle.bank.specs.declared.call.FrameAnswer.TheVariants.{Reply, WrongLength}
 use Rattle.bank.specs.Call.{FrameInput, call_verdict}
 
 -- the clock that a call sets
@@ -30,9 +30,9 @@ entered_by w a =
     call_entries (clock_by w a) w.bank v (order_in v (advanced a.time w).bank q) q
 
 -- a call given number 1 enters nothing
-abbrev pub if_answered : FrameAnswer → List Entry → List Entry
-if_answered (Reply n) es = es
-if_answered WrongLength es = []
+abbrev pub if_answered : Result ℕ WrongLength → List Entry → List Entry
+if_answered (Ok n) es = es
+if_answered (Err e) es = []
 
 -- the journal after these events of a call that sets this clock
 abbrev pub with_entries : ℕ → List Entry → Journal → Journal
@@ -46,6 +46,6 @@ unfoldable pub journal_after : BankState → FrameInput → Journal → Journal
 journal_after w a j = with_entries (clock_by w a) (entered_by w a) j
 
 -- a call given number 1 leaves the journal
-abbrev pub journal_by : FrameAnswer → Journal → Journal → Journal
-journal_by (Reply n) after before = after
-journal_by WrongLength after before = before
+abbrev pub journal_by : Result ℕ WrongLength → Journal → Journal → Journal
+journal_by (Ok n) after before = after
+journal_by (Err e) after before = before

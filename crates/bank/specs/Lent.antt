@@ -1,16 +1,17 @@
 -- The bank's calls on lent memory: the call is document 01's on the bank that the rows are, and every number of the
 -- rows after it is said. Rows that fail the one test, `is_sound`, get number 1.
+use Rattle.bank.specs.declared.mailbox.FileRefusal.{FileRefusal}
+use Rattle.number_table.specs.Numbers.{number_one}
+use Rattle.number_table.specs.declared.table.WrongLength.{WrongLength}
+use Rattle.std.specs.Prelude.{Err, Result}
 use Rattle.std.specs.Prelude.{ℕ, cond, List}
 use Rattle.frame_table.specs.declared.fields.Fields.{Fields}
 use Rattle.bank_rows.specs.State.{bank_of, stored}
 use Rattle.bank_sound.specs.Sound.{is_sound}
 use Rattle.bank_verdicts.specs.declared.verdict.Context.{Context}
 use Rattle.bank_steps.specs.Lent.{Lent, state_of, kept_in}
-use Rattle.bank.specs.declared.call.FrameAnswer.{FrameAnswer}
-use Rattle.bank.specs.declared.call.FrameAnswer.TheVariants as frame
 use Rattle.bank.specs.declared.call.FrameOut.{FrameOut}
-use Rattle.bank.specs.declared.mailbox.FileAnswer.{FileAnswer}
-use Rattle.bank.specs.declared.mailbox.FileAnswer.TheVariants as answers
+use Rattle.bank.specs.declared.mailbox.FileRefusal.TheVariants as answers
 use Rattle.bank.specs.Call.{respond, FrameInput, frame_number, FrameCall, replied, frame_call}
 use Rattle.bank.specs.Mailbox.{file_number, FileCall, file_call}
 
@@ -20,7 +21,7 @@ use Rattle.bank.specs.Mailbox.{file_number, FileCall, file_call}
 pub record LentFrameCall : Type 0 where
   pub lent : Lent
   pub buffer : List ℕ
-  pub answer : FrameAnswer
+  pub answer : Result ℕ WrongLength
   pub number : ℕ
   pub code : ℕ
 
@@ -39,7 +40,7 @@ kept_frame m c = record {
 
 -- number 1, and no reply
 abbrev pub no_reply : FrameOut
-no_reply = record { answer = frame.WrongLength; code = 0 }
+no_reply = record { answer = Err number_one; code = 0 }
 
 -- number 1, nothing changed
 abbrev pub frame_turned_away : Lent → FrameInput → LentFrameCall
@@ -57,10 +58,10 @@ lent_respond c m q d buffer = kept_frame m (replied (respond c (state_of m) q d)
 pub record LentFileCall : Type 0 where
   pub rows : List ℕ
   pub mailboxes : List ℕ
-  pub answer : FileAnswer
+  pub answer : Result (Unit {0}) FileRefusal
   pub number : ℕ
 
-abbrev pub lent_file_call_of : FileAnswer → List ℕ → List ℕ → LentFileCall
+abbrev pub lent_file_call_of : Result (Unit {0}) FileRefusal → List ℕ → List ℕ → LentFileCall
 lent_file_call_of a rows mailboxes = record { rows = rows; mailboxes = mailboxes; answer = a; number = file_number a }
 
 abbrev pub kept_file : List ℕ → FileCall → LentFileCall
@@ -74,4 +75,4 @@ kept_file rows c = record {
 unfoldable pub lent_file_call : List ℕ → ℕ → List ℕ → List ℕ → LentFileCall
 lent_file_call rows mailbox file mailboxes =
     cond (is_sound rows) (kept_file rows (file_call (bank_of rows) mailbox file mailboxes))
-    (lent_file_call_of answers.WrongLength rows mailboxes)
+    (lent_file_call_of (Err answers.WrongLength) rows mailboxes)

@@ -34,19 +34,13 @@ use frame_table::table::LAST_TIME;
 use frame_writer::writer::write_accepted;
 use journal::event::Batch;
 use message::segments::segment_of;
+use number_table::table::WrongLength;
 use octets::bytes::number;
-
-// The reply's length in the lent buffer, or document 01's number 1.
-#[derive(Clone, Copy)]
-pub enum FrameAnswer {
-    Reply(usize),
-    WrongLength,
-}
 
 // A call's answer, and the return code of its reply, 0 where there is none.
 #[derive(Clone, Copy)]
 pub struct FrameOut {
-    pub answer: FrameAnswer,
+    pub answer: Result<usize, WrongLength>,
     pub code: u64,
 }
 
@@ -66,7 +60,7 @@ fn reply_with(fields: Fields, bytes: &[u8], buffer: &mut [u8]) -> FrameOut
 {
     let n = write_accepted(fields, bytes, buffer);
     FrameOut {
-        answer: FrameAnswer::Reply(n),
+        answer: Ok(n),
         code: fields.return_code(),
     }
 }
@@ -133,13 +127,12 @@ fn turned_away() -> FrameStep
     ensures { (result.out ≡ no_reply) × Holds result.batch [] × (result.verdict ≡ Unreadable) }
 {
     let out = FrameOut {
-        answer: FrameAnswer::WrongLength,
+        answer: Err(WrongLength),
         code: 0,
     };
-    let batch = no_events();
     FrameStep {
         out,
-        batch,
+        batch: no_events(),
         verdict: Verdict::Unreadable,
     }
 }
@@ -149,19 +142,11 @@ fn lent_right(orders: usize, mailboxes: usize, ids: usize, buffer: usize, time: 
     ensures { result ≡ (eqb orders store_bytes && eqb mailboxes store_bytes && eqb ids id_bytes
         && leb reply_room buffer && leb time last_time) }
 {
-    if orders != STORE_BYTES {
-        return false;
-    }
-    if mailboxes != STORE_BYTES {
-        return false;
-    }
-    if ids != ID_BYTES {
-        return false;
-    }
-    if buffer < REPLY_ROOM {
-        return false;
-    }
-    time <= LAST_TIME
+    orders == STORE_BYTES
+        && mailboxes == STORE_BYTES
+        && ids == ID_BYTES
+        && REPLY_ROOM <= buffer
+        && time <= LAST_TIME
 }
 
 // A request, read, arrives at a bank time, with a bank's rows, the ID bytes, both stores and the reply buffer lent;
@@ -224,9 +209,8 @@ pub fn answer_sound(
         (frame_input time ids.now frame.now buffer.old))) }
 {
     let p = read_whole_request(frame);
-    let q = p.fields;
     let bytes = data_at(frame, p.from, p.end);
-    answer_request(rows, time, ids, q, bytes, orders, mailboxes, buffer)
+    answer_request(rows, time, ids, p.fields, bytes, orders, mailboxes, buffer)
 }
 
 // A frame arrives at a bank time, with any rows, the ID bytes, both stores and the reply buffer lent.

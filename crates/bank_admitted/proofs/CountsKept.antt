@@ -1,4 +1,7 @@
 -- Every call keeps what the counts of a session hold of its bank, so that none of them can wrap. Assumes nothing.
+use Rattle.bank.specs.declared.mailbox.FileRefusal.{FileRefusal}
+use Rattle.number_table.specs.declared.table.WrongLength.{WrongLength}
+use Rattle.std.specs.Prelude.{Err, Ok, Result}
 use Prim.Native.Nat.{ℕ, suc, ◌+◌, ◌-◌, ◌^◌, ◌≤◌, ◌<◌, max}
 use mathlib.Core.Bool.{Bool, true, false, cond, ◌&&◌}
 use mathlib.Core.List.{List, [], ◌∷◌}
@@ -26,10 +29,7 @@ use Rattle.opening_counts.specs.declared.seven.Counts.{Counts}
 use Rattle.opening_counts.specs.Counts.{no_counts, counts_after, most_moved, fits, can_grow}
 use Rattle.opening_counts.proofs.Laws.{ends_by, after-sum, after-pending}
 use Rattle.bank_steps.proofs.Cases.{happens}
-use Rattle.bank.specs.declared.call.FrameAnswer.{FrameAnswer}
-use Rattle.bank.specs.declared.call.FrameAnswer.TheVariants.{Reply, WrongLength}
-use Rattle.bank.specs.declared.mailbox.FileAnswer.{FileAnswer}
-use Rattle.bank.specs.declared.mailbox.FileAnswer.TheVariants as answers
+use Rattle.bank.specs.declared.mailbox.FileRefusal.TheVariants as answers
 use Rattle.bank.specs.Call.{Step, answer_of, lent_right, respond, FrameInput, context_of, FrameCall, frame_call}
 use Rattle.bank.specs.Mailbox.{file_refusals, carry_out_file, file_call}
 use Rattle.bank.proofs.RequestBounds.{read-bounded}
@@ -105,7 +105,7 @@ module _ (w : BankState) (v : StateHolds w) (a : FrameInput) where
 
   -- where nothing gets number 1 there is a reply
   pub replies : Brought a → lent_right w a ≡ true →
-      answer_of (write_answer step.reply step.reply_data a.buffer) ≡ Reply (length (frame_of step.reply step.reply_data))
+      answer_of (write_answer step.reply step.reply_data a.buffer) ≡ Ok (length (frame_of step.reply step.reply_data))
   replies brought lent =
       let right = (right-told w a lent).2 in
       let r = respond-written (context_of a) b q d (number_small id_bytes a.ids brought.ids right.ids)
@@ -147,7 +147,7 @@ module _ (w : BankState) (v : StateHolds w) (a : FrameInput) where
         (counts_after step.verdict (gone_by w a) (open_count b.bank - open_count x.bank_state.bank - 1) c) c))
         (lent_right w a)
         (λ lent.
-        subst (λ (r : FrameAnswer). CountsHold step.bank_state.bank
+        subst (λ (r : Result ℕ WrongLength). CountsHold step.bank_state.bank
         (counts_by r
         (counts_after step.verdict (gone_by w a) (open_count b.bank - open_count step.bank_state.bank - 1) c) c))
         (sym (replies brought lent)) after_holds)
@@ -162,14 +162,14 @@ module _ (w : BankState) (c : Counts) (h : CountsHold w.bank c) where
 
   pub file-counts : (mailbox : ℕ) (file : List ℕ) → CountsHold (file_call w.bank mailbox file w.mailboxes).bank c
   unfolding file_call
-  file-counts mailbox file = by (decide (file_refusals w.bank mailbox file w.mailboxes) answers.Done)
+  file-counts mailbox file = by (decide (file_refusals w.bank mailbox file w.mailboxes) (Ok tt))
     where
-      by : (r : FileAnswer) → CountsHold (carry_out_file r w.bank mailbox file w.mailboxes).bank c
-      by answers.Done = files-count _
-      by answers.WrongLength = h
-      by answers.NoMailbox = h
-      by answers.WrongFile = h
-      by answers.MailboxFull = h
+      by : (r : Result (Unit {0}) FileRefusal) → CountsHold (carry_out_file r w.bank mailbox file w.mailboxes).bank c
+      by (Ok u) = files-count _
+      by (Err answers.WrongLength) = h
+      by (Err answers.NoMailbox) = h
+      by (Err answers.WrongFile) = h
+      by (Err answers.MailboxFull) = h
 
 -- ---- a fresh session
 

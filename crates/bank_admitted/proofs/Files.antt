@@ -1,4 +1,6 @@
 -- A file that goes into a mailbox keeps what the state may hold.
+use Rattle.bank.specs.declared.mailbox.FileRefusal.{FileRefusal}
+use Rattle.std.specs.Prelude.{Ok, Result}
 use Prim.Native.Nat.{ℕ, ◌+◌, ◌-◌, ◌*◌, ◌≤◌, ◌<◌}
 use mathlib.Core.Bool.{Bool, true, false, not, ◌||◌}
 use mathlib.Core.List.{List, ◌++◌}
@@ -18,8 +20,6 @@ use Rattle.bank_state.specs.Limits.{place_count, store_bytes}
 use Rattle.bank_state.specs.Search.{open_count, open_count_of}
 use Rattle.bank_state.specs.State.{Bank, BankState, bank_state, download_at, file_length, with_files}
 use Rattle.bank_state.specs.Store.{part_at, file_of}
-use Rattle.bank.specs.declared.mailbox.FileAnswer.{FileAnswer}
-use Rattle.bank.specs.declared.mailbox.FileAnswer.TheVariants as put
 use Rattle.bank.specs.Mailbox.{file_refusals, file_number}
 use Rattle.bank_admitted.specs.State.{mailbox_file, DownloadHolds, MailboxHolds, StateHolds}
 use Rattle.bank_admitted.proofs.Stores.{length-written, part-written, part-unwritten}
@@ -34,13 +34,13 @@ filled mailbox file w =
     (overwrite w.mailboxes ((mailbox - 1) * file_bytes) file)
 
 -- what the tests tell of a file that goes in
-pub data FileSound (b : Bank) (mailbox : ℕ) (file mailboxes : List ℕ) : FileAnswer → Type 0 where
-  rejected : {a : FileAnswer} → (0 < file_number a) → FileSound b mailbox file mailboxes a
+pub data FileSound (b : Bank) (mailbox : ℕ) (file mailboxes : List ℕ) : Result (Unit {0}) FileRefusal → Type 0 where
+  rejected : {a : Result (Unit {0}) FileRefusal} → (0 < file_number a) → FileSound b mailbox file mailboxes a
   done : 1 ≤ mailbox → mailbox ≤ subscribers → 1 ≤ length file → length file ≤ file_bytes → file_length mailbox b.files ≡ 0 →
-      FileSound b mailbox file mailboxes put.Done
+      FileSound b mailbox file mailboxes (Ok tt)
 
 pub judged-file : (b : Bank) (mailbox : ℕ) (file mailboxes : List ℕ) →
-    FileSound b mailbox file mailboxes (decide (file_refusals b mailbox file mailboxes) put.Done)
+    FileSound b mailbox file mailboxes (decide (file_refusals b mailbox file mailboxes) (Ok tt))
 unfolding file_refusals
 judged-file b mailbox file mailboxes =
     by-test P (not (eqb (length mailboxes) store_bytes)) (λ _. rejected (omega arith))
@@ -51,12 +51,12 @@ judged-file b mailbox file mailboxes =
     (or-neither (eqb (length file) 0) (ltb file_bytes (length file)) size)
     (eqb-true (file_length mailbox b.files) 0 (not-false _ empty))))))
   where
-    P : FileAnswer → Type 0
+    P : Result (Unit {0}) FileRefusal → Type 0
     P a = FileSound b mailbox file mailboxes a
 
     accepted : (ltb mailbox 1 ≡ false) × (ltb subscribers mailbox ≡ false) →
         (eqb (length file) 0 ≡ false) × (ltb file_bytes (length file) ≡ false) →
-        file_length mailbox b.files ≡ 0 → FileSound b mailbox file mailboxes put.Done
+        file_length mailbox b.files ≡ 0 → FileSound b mailbox file mailboxes (Ok tt)
     accepted m f e = done (ltb-false _ _ m.0) (ltb-false _ _ m.1) (let z = eqb-false (length file) 0 f.0 in omega arith)
         (ltb-false _ _ f.1) e
 

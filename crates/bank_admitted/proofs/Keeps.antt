@@ -1,4 +1,6 @@
 -- Every call keeps what the state may hold: each case of a request, a frame call and a file call.
+use Rattle.bank.specs.declared.mailbox.FileRefusal.{FileRefusal}
+use Rattle.std.specs.Prelude.{Err, Ok, Result}
 use Prim.Native.Nat.{ℕ, ◌≤◌, ◌<◌}
 use mathlib.Core.List.{List}
 use mathlib.Core.Path.{◌≡◌}
@@ -15,8 +17,7 @@ use Rattle.bank_state.specs.State.{BankState, bank_state}
 use Rattle.bank_verdicts.specs.declared.verdict.Context.{Context}
 use Rattle.bank_verdicts.specs.declared.verdict.Verdict.{Verdict}
 use Rattle.bank_steps.specs.Steps.{carry_out}
-use Rattle.bank.specs.declared.mailbox.FileAnswer.{FileAnswer}
-use Rattle.bank.specs.declared.mailbox.FileAnswer.TheVariants as put
+use Rattle.bank.specs.declared.mailbox.FileRefusal.TheVariants as put
 use Rattle.bank.specs.Call.{FrameCall, FrameInput, context_of, lent_right, respond, frame_call}
 use Rattle.bank.specs.Mailbox.{FileCall, file_number, carry_out_file, file_call}
 use Rattle.bank_admitted.specs.State.{StateHolds, NoneIdle}
@@ -85,19 +86,19 @@ module _ (w : BankState) (v : StateHolds w) where
 
   -- what holds of the state, and of it with a file that was accepted, holds after a file call
   each-file : (P : BankState → Type 0) (mailbox : ℕ) (file : List ℕ) → P w →
-      (FileSound w.bank mailbox file w.mailboxes put.Done → P (after_file (carry_out_file put.Done w.bank mailbox file w.mailboxes))) →
+      (FileSound w.bank mailbox file w.mailboxes (Ok tt) → P (after_file (carry_out_file (Ok tt) w.bank mailbox file w.mailboxes))) →
       P (after_file (file_call w.bank mailbox file w.mailboxes))
   unfolding file_call
   each-file P mailbox file old new = at (judged-file w.bank mailbox file w.mailboxes)
     where
-      refusal : (a : FileAnswer) → 0 < file_number a → P (after_file (carry_out_file a w.bank mailbox file w.mailboxes))
-      refusal put.Done h = absurd (omega arith)
-      refusal put.WrongLength h = old
-      refusal put.NoMailbox h = old
-      refusal put.WrongFile h = old
-      refusal put.MailboxFull h = old
+      refusal : (a : Result (Unit {0}) FileRefusal) → 0 < file_number a → P (after_file (carry_out_file a w.bank mailbox file w.mailboxes))
+      refusal (Ok u) h = absurd (omega arith)
+      refusal (Err put.WrongLength) h = old
+      refusal (Err put.NoMailbox) h = old
+      refusal (Err put.WrongFile) h = old
+      refusal (Err put.MailboxFull) h = old
 
-      at : {a : FileAnswer} → FileSound w.bank mailbox file w.mailboxes a →
+      at : {a : Result (Unit {0}) FileRefusal} → FileSound w.bank mailbox file w.mailboxes a →
           P (after_file (carry_out_file a w.bank mailbox file w.mailboxes))
       at {a} (rejected h) = refusal a h
       at (done known most some short empty) = new (done known most some short empty)
@@ -106,8 +107,8 @@ module _ (w : BankState) (v : StateHolds w) where
       let c = file_call w.bank mailbox file w.mailboxes in StateHolds (bank_state c.bank w.orders c.mailboxes)
   file-keeps-state mailbox file = each-file StateHolds mailbox file v into
     where
-      into : FileSound w.bank mailbox file w.mailboxes put.Done →
-          StateHolds (after_file (carry_out_file put.Done w.bank mailbox file w.mailboxes))
+      into : FileSound w.bank mailbox file w.mailboxes (Ok tt) →
+          StateHolds (after_file (carry_out_file (Ok tt) w.bank mailbox file w.mailboxes))
       into (rejected h) = absurd (omega arith)
       into (done known most some short empty) = filled_keeps w v mailbox file known most some short empty
 

@@ -1,4 +1,7 @@
 -- Every call keeps what a session may hold; what it holds of the state and of idle transactions is taken as given.
+use Rattle.bank.specs.declared.mailbox.FileRefusal.{FileRefusal}
+use Rattle.number_table.specs.declared.table.WrongLength.{WrongLength}
+use Rattle.std.specs.Prelude.{Err, Ok, Result}
 use Prim.Native.Nat.{ℕ, ◌+◌, ◌*◌, ◌^◌, ◌≤◌, ◌<◌, max}
 use mathlib.Core.Bool.{true, false}
 use mathlib.Core.List.Memᴰ.{append_cases as in-append}
@@ -32,10 +35,7 @@ use Rattle.journal.specs.Events.{max_entries}
 use Rattle.journal.specs.Row.{Journal}
 use Rattle.bank_events.specs.Entries.{drop_entry, dropped_uploads, order_in, action_entries, call_entries}
 use Rattle.bank_steps.specs.Steps.{carry_out}
-use Rattle.bank.specs.declared.call.FrameAnswer.{FrameAnswer}
-use Rattle.bank.specs.declared.call.FrameAnswer.TheVariants.{Reply, WrongLength}
-use Rattle.bank.specs.declared.mailbox.FileAnswer.{FileAnswer}
-use Rattle.bank.specs.declared.mailbox.FileAnswer.TheVariants as answers
+use Rattle.bank.specs.declared.mailbox.FileRefusal.TheVariants as answers
 use Rattle.bank.specs.Call.{RightInput, lent_right, respond, replied, FrameInput, context_of, FrameCall, frame_call}
 use Rattle.bank.specs.Journal.{entered_by, journal_after, journal_by, with_entries}
 use Rattle.bank.specs.Mailbox.{file_refusals, carry_out_file, file_call}
@@ -218,12 +218,12 @@ module _ {w : BankState} {j : Journal} (h : SessionHolds w j) (a : FrameInput) (
         let m = length-map (dropped_uploads c w.bank) drop_entry in
         omega arith
 
-    answered-keeps : (r : FrameAnswer) → StateHolds after → NoneIdle after →
+    answered-keeps : (r : Result ℕ WrongLength) → StateHolds after → NoneIdle after →
         SessionHolds after (journal_by r (with_entries c (drops ++ acted) j) j)
-    answered-keeps (Reply n) state idle =
+    answered-keeps (Ok n) state idle =
         with-journal (with_entries c (drops ++ acted) j) state idle
         (journal-entered c after.bank.openings (drops ++ acted) j journal-waits entries-hold) few
-    answered-keeps WrongLength state idle =
+    answered-keeps (Err e) state idle =
         with-journal j state idle journal-waits (let x = few in omega arith)
 
 -- ---- the calls
@@ -265,16 +265,16 @@ module _ {w : BankState} {j : Journal} (h : SessionHolds w j) where
       SessionHolds (bank_state (file_call w.bank mailbox file w.mailboxes).bank w.orders
       (file_call w.bank mailbox file w.mailboxes).mailboxes) j
   unfolding file_call
-  file-keeps mailbox file = by (decide (file_refusals w.bank mailbox file w.mailboxes) answers.Done)
+  file-keeps mailbox file = by (decide (file_refusals w.bank mailbox file w.mailboxes) (Ok tt))
     where
-      After : FileAnswer → BankState
+      After : Result (Unit {0}) FileRefusal → BankState
       After r =
           let x = carry_out_file r w.bank mailbox file w.mailboxes in
           bank_state x.bank w.orders x.mailboxes
 
-      by : (r : FileAnswer) → StateHolds (After r) → NoneIdle (After r) → SessionHolds (After r) j
-      by answers.Done = files-keep _ _
-      by answers.WrongLength = files-keep w.bank.files w.mailboxes
-      by answers.NoMailbox = files-keep w.bank.files w.mailboxes
-      by answers.WrongFile = files-keep w.bank.files w.mailboxes
-      by answers.MailboxFull = files-keep w.bank.files w.mailboxes
+      by : (r : Result (Unit {0}) FileRefusal) → StateHolds (After r) → NoneIdle (After r) → SessionHolds (After r) j
+      by (Ok u) = files-keep _ _
+      by (Err answers.WrongLength) = files-keep w.bank.files w.mailboxes
+      by (Err answers.NoMailbox) = files-keep w.bank.files w.mailboxes
+      by (Err answers.WrongFile) = files-keep w.bank.files w.mailboxes
+      by (Err answers.MailboxFull) = files-keep w.bank.files w.mailboxes

@@ -1,4 +1,5 @@
 -- The calls of the rows in fewer steps: a lent row of n zeros is not walked to find that it has n. Assumes nothing.
+use Rattle.std.specs.Prelude.{Err, Ok}
 use Prim.Native.Nat.{ℕ}
 use mathlib.Core.Bool.{Bool, true, false, cond, ◌&&◌}
 use mathlib.Core.List.{List, []}
@@ -21,7 +22,7 @@ use Rattle.image.specs.Items.{image_items}
 use Rattle.image.specs.Image.{fits}
 use Rattle.image_conditions.specs.Conditions.{admitted}
 use Rattle.image_numbers.specs.Numbers.{numbers_in}
-use Rattle.image_calls.specs.declared.calls.Away.TheVariants as away
+use Rattle.image.specs.declared.codec.ImageRefusal.TheVariants as away
 use Rattle.image_calls.specs.Calls.{
   image_length,
   image_in,
@@ -121,9 +122,9 @@ admitted-by m =
 abbrev put_away_by : Bool → LentSession → List ℕ → PutAway
 put_away_by listed m buffer =
     cond (lengths_right m && leb image_length (length buffer))
-    (cond listed (put_away_of (away.Length image_length) (overwrite buffer 0 (image_in m)))
-    (put_away_of away.NotAdmitted buffer))
-    (put_away_of away.WrongLength buffer)
+    (cond listed (put_away_of (Ok image_length) (overwrite buffer 0 (image_in m)))
+    (put_away_of (Err away.NotAdmitted) buffer))
+    (put_away_of (Err away.WrongLength) buffer)
 
 quick-away : (m : LentSession) (buffer : List ℕ) → put_away m buffer ≡ put_away_by (admitted_by m) m buffer
 unfolding put_away

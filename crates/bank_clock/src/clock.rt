@@ -22,11 +22,8 @@ pub fn is_idle_upload(rows: &[u64], i: usize, clock: u64) -> bool
     ensures { result ≡ (is_open (place_at (bank_of rows.now) i).used
         && is_idle clock (place_at (bank_of rows.now) i).last) }
 {
-    if !is_open_at(rows, i) {
-        return false;
-    }
     let at = PLACES_AT + PLACE_WIDTH * i;
-    is_behind(clock, rows[at + PLACE_LAST], IDLE_LIMIT)
+    is_open_at(rows, i) && is_behind(clock, rows[at + PLACE_LAST], IDLE_LIMIT)
 }
 
 // Drops the upload in place i where it is idle.
@@ -50,17 +47,15 @@ fn drop_uploads(rows: &mut [u64], orders: &mut [u8])
         (drop_uploads place_count (bank_state (bank_of rows.old) orders.old mailboxes))
         rows.old rows.new orders.new }
 {
-    let mut i = 0;
-    while i < PLACE_COUNT {
+    for i in 0..PLACE_COUNT {
         drop_upload(rows, i, orders);
-        i += 1;
     }
 }
 
 pub fn larger(x: u64, y: u64) -> u64
     ensures { result ≡ max x y }
 {
-    if x < y { y } else { x }
+    x.max(y)
 }
 
 // The state at a clock, but for its uploads.

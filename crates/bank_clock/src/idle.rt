@@ -16,16 +16,9 @@ fn idle_uploads(rows: &[u64], clock: u64) -> usize
     requires { Laid rows.now }
     ensures { (result ≤ place_count) × (result ≡ count_of (is_idle_upload clock) (bank_of rows.now).places) }
 {
-    let mut n: usize = 0;
-    let mut i = 0;
-    while i < PLACE_COUNT {
-        let row = i;
-        i += 1;
-        if is_idle_upload(rows, row, clock) {
-            n += 1;
-        }
-    }
-    n
+    (0..PLACE_COUNT)
+        .filter(|i| is_idle_upload(rows, *i, clock))
+        .count()
 }
 
 // Whether download i is idle at this clock.
@@ -43,17 +36,8 @@ fn idle_downloads(rows: &[u64], clock: u64) -> usize
     ensures { (result ≤ place_count)
         × (result ≡ count_of (is_idle_download clock) (bank_of rows.now).downloads) }
 {
-    let count = rows[DOWNLOAD_COUNT_AT] as usize;
-    let mut n: usize = 0;
-    let mut i = 0;
-    while i < count {
-        let row = i;
-        i += 1;
-        if is_idle_download(rows, row, clock) {
-            n += 1;
-        }
-    }
-    n
+    let n = rows[DOWNLOAD_COUNT_AT] as usize;
+    (0..n).filter(|i| is_idle_download(rows, *i, clock)).count()
 }
 
 // The open transactions that are idle at this clock.

@@ -20,8 +20,8 @@ use Rattle.bank_state.specs.Clock.{is_idle}
 use Rattle.bank_state.specs.Rows.{count_of, keep}
 use Rattle.bank_state.specs.State.{BankState}
 use Rattle.bank_events.specs.Entries.{kind_of, signed_kind, verdict_kind, is_event, action_entries}
-use Rattle.bank_verdicts.specs.declared.verdict.Direction.{Direction}
-use Rattle.bank_verdicts.specs.declared.verdict.Direction.TheVariants as direction
+use Rattle.message.specs.declared.directions.Direction.{Direction}
+use Rattle.message.specs.declared.directions.Direction.TheVariants as direction
 use Rattle.bank_verdicts.specs.declared.verdict.UploadAction.TheVariants as up
 use Rattle.bank_verdicts.specs.declared.verdict.Action.{Action}
 use Rattle.bank_verdicts.specs.declared.verdict.Action.TheVariants as action

@@ -24,7 +24,7 @@ use Rattle.octets.proofs.Tests.{never, every-below}
 use Rattle.message.specs.declared.codes.ReturnCode.{ReturnCode}
 use Rattle.bank_state.specs.Clock.{is_idle}
 use Rattle.bank_state.specs.Rows.{count_of}
-use Rattle.bank_verdicts.specs.declared.verdict.Direction.{Direction}
+use Rattle.message.specs.declared.directions.Direction.{Direction}
 use Rattle.bank_verdicts.specs.declared.verdict.UploadAction.TheVariants as up
 use Rattle.bank_verdicts.specs.declared.verdict.DownloadAction.TheVariants as down
 use Rattle.bank_verdicts.specs.declared.verdict.Action.{Action}

@@ -1,4 +1,5 @@
 -- The counts that a lent session carries are those of its calls, and the call that asks for them gives these.
+use Rattle.std.specs.Prelude.{Ok}
 use Prim.Native.Nat.{ℕ}
 use mathlib.Core.Bool.{true}
 use mathlib.Core.List.{List}
@@ -8,7 +9,6 @@ use borrow.Author.Tests.{eq-eqb}
 use Rattle.bank_sound.specs.Sound.{is_sound}
 use Rattle.bank_steps.specs.Lent.{Lent}
 use Rattle.opening_counts.specs.declared.seven.Counts.{Counts}
-use Rattle.bank_session.specs.declared.report.CountAnswer.TheVariants.{Counted}
 use Rattle.bank_session.specs.Session.{session_size, bank_rows, counts_in, count_call}
 use Rattle.bank_session.proofs.Laws.{file-counts}
 use Rattle.bank_admitted.proofs.CountsKept.{counts-grow}
@@ -41,7 +41,7 @@ session-counted : {calls : List BankCall} → AllBytes calls → counts_in (lent
 session-counted {calls} given = session-carries given ∙ openings-end.carries calls
 
 session-reported : {calls : List BankCall} → AllBytes calls →
-    count_call (lent_session_of calls).rows ≡ Counted (counts (past_of calls).history)
+    count_call (lent_session_of calls).rows ≡ Ok (counts (past_of calls).history)
 unfolding count_call
 session-reported {calls} given =
     let rows = (lent_session_of calls).rows in
@@ -51,7 +51,7 @@ session-reported {calls} given =
       eq-eqb (length rows) session_size s.size,
       sound,
       counts-grow s.counts (past-holds calls).invariant.state.numbers,
-    ) (ap (λ (c : Counts). Counted c) (session-counted given))
+    ) (ap (λ (c : Counts). Ok c) (session-counted given))
 
 pub session-counts : SessionCounts
 session-counts = record { carries = session-carries; counted = session-counted; reported = session-reported }

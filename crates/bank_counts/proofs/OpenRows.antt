@@ -1,6 +1,6 @@
 -- The bank's open transactions are as many as the accepted openings that stand open: its open rows have their own
 -- transactions, each of an accepted opening, and every opening that stands open has such a row.
-use Prim.Native.Nat.{ℕ, ◌+◌}
+use Prim.Native.Nat.{ℕ}
 use mathlib.Core.Bool.{Bool, true}
 use mathlib.Core.List.{List, ◌++◌, Memᴰ as In}
 use mathlib.Core.Logic.{◌⊎◌, inl, inr}
@@ -15,7 +15,7 @@ use Rattle.bank_state.specs.declared.state.Place.{Place}
 use Rattle.bank_state.specs.Rows.{count_of}
 use Rattle.bank_state.specs.Search.{is_open, open_count}
 use Rattle.bank_state.specs.State.{BankState, no_place, no_download, place_at}
-use Rattle.bank_verdicts.specs.declared.verdict.Direction.{Direction}
+use Rattle.message.specs.declared.directions.Direction.{Direction}
 use Rattle.bank_admitted.proofs.Held.{open-in-use, downloads-apart}
 use Rattle.bank_history.specs.History.{Exchange}
 use Rattle.bank_history.specs.Invariant.{Invariant}

@@ -1,4 +1,7 @@
 -- Where every opening ended, after every list of calls to a fresh bank: by the statuses, so by requests and replies.
+use Rattle.bank.specs.declared.mailbox.FileRefusal.{FileRefusal}
+use Rattle.number_table.specs.declared.table.WrongLength.{WrongLength}
+use Rattle.std.specs.Prelude.{Err, Ok, Result}
 use Prim.Native.Nat.{ℕ, ◌+◌, ◌<◌}
 use mathlib.Core.Bool.{Bool, not, ◌&&◌}
 use mathlib.Core.List.{List, [], ◌∷◌, ◌++◌, map, append-nil, Memᴰ as In}
@@ -18,10 +21,7 @@ use Rattle.bank_verdicts.specs.declared.verdict.Action.TheVariants as action
 use Rattle.bank_verdicts.specs.declared.verdict.Verdict.{Verdict}
 use Rattle.bank_verdicts.specs.declared.verdict.Verdict.TheVariants as verdict
 use Rattle.bank_verdicts.specs.Judgement.{upload_at}
-use Rattle.bank.specs.declared.call.FrameAnswer.{FrameAnswer}
-use Rattle.bank.specs.declared.call.FrameAnswer.TheVariants.{Reply, WrongLength}
-use Rattle.bank.specs.declared.mailbox.FileAnswer.{FileAnswer}
-use Rattle.bank.specs.declared.mailbox.FileAnswer.TheVariants as put
+use Rattle.bank.specs.declared.mailbox.FileRefusal.TheVariants as put
 use Rattle.bank.specs.Call.{FrameInput, FrameCall, frame_call}
 use Rattle.bank.specs.Mailbox.{file_call}
 use Rattle.bank_steps.proofs.Cases.{
@@ -291,13 +291,13 @@ module _ {calls : List BankCall} {e : Exchange} (n : Next calls e) where
 
 -- ---- carried from call to call
 
-placed-history : (a : FileAnswer) (b : Bank) (mailboxes : List ℕ) (p : Past) →
+placed-history : (a : Result (Unit {0}) FileRefusal) (b : Bank) (mailboxes : List ℕ) (p : Past) →
     (placed a b mailboxes p).history ≡ p.history
-placed-history put.Done b mailboxes p = refl
-placed-history put.WrongLength b mailboxes p = refl
-placed-history put.NoMailbox b mailboxes p = refl
-placed-history put.WrongFile b mailboxes p = refl
-placed-history put.MailboxFull b mailboxes p = refl
+placed-history (Ok u) b mailboxes p = refl
+placed-history (Err put.WrongLength) b mailboxes p = refl
+placed-history (Err put.NoMailbox) b mailboxes p = refl
+placed-history (Err put.WrongFile) b mailboxes p = refl
+placed-history (Err put.MailboxFull) b mailboxes p = refl
 
 -- a frame call, by the falls of the bank's open transactions
 pub frame-carried : (calls : List BankCall) (a : FrameInput) →
@@ -317,23 +317,23 @@ frame-carried calls a = at left.answer refl
     e : Exchange
     e = call_exchange w a
 
-    at : (x : FrameAnswer) → left.answer ≡ x →
+    at : (x : Result ℕ WrongLength) → left.answer ≡ x →
         counts_by x (counts_over w a (counts p.history)) (counts p.history)
         ≡ counts (entered x left.bank_state e p).history
-    at (Reply m) z =
+    at (Ok m) z =
         let n : Next calls e = record {
           input = a;
-          entered = ap (λ (x : FrameAnswer). (entered x left.bank_state e p).history) z;
+          entered = ap (λ (x : Result ℕ WrongLength). (entered x left.bank_state e p).history) z;
         } in
         let bank : open_count (past_of (Frame a ∷ calls)).bank_state.bank ≡ open_count left.bank_state.bank =
-        ap (λ (x : FrameAnswer). open_count (entered x left.bank_state e p).bank_state.bank) z in
+        ap (λ (x : Result ℕ WrongLength). open_count (entered x left.bank_state e p).bank_state.bank) z in
         let gone : gone_by w a ≡ dropped_by e.clock p.history = (let f = clock-falls n in omega arith) in
         receipt-alone e.verdict (others_by w a) (others_ended e p.history)
         (with_dropped (gone_by w a) (counts p.history))
         (λ t own. let f = receipt-falls n t own in omega arith)
         ∙ (ap (λ (k : ℕ). counts_after e.verdict k (others_ended e p.history) (counts p.history)) gone
         ∙ sym (counts-moved n))
-    at WrongLength z = refl
+    at (Err e) z = refl
 
 carried-is : (calls : List BankCall) → carried calls ≡ counts (past_of calls).history
 unfolding carried past_of after start standing_in opened_ids count_of

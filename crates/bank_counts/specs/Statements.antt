@@ -1,4 +1,5 @@
 -- What is said of the seven counts after every list of calls to a fresh bank.
+use Rattle.std.specs.Prelude.{Ok}
 use Rattle.std.specs.Prelude.{◌+◌, ◌<◌, ◌≡◌}
 use mathlib.Core.List.{List, ◌∷◌, map, Memᴰ as In}
 use Rattle.frame_table.specs.declared.fields.Bits128.{Bits128}
@@ -10,7 +11,6 @@ use Rattle.bank_verdicts.specs.declared.verdict.DownloadAction.TheVariants as do
 use Rattle.bank_verdicts.specs.declared.verdict.Action.TheVariants as action
 use Rattle.bank_verdicts.specs.declared.verdict.Verdict.TheVariants as verdict
 use Rattle.opening_counts.specs.Counts.{count_size, sum, counts_after}
-use Rattle.bank_session.specs.declared.report.CountAnswer.TheVariants.{Counted}
 use Rattle.bank_session.specs.Session.{counts_in, count_call}
 use Rattle.bank_history.specs.Answers.{AllBytes}
 use Rattle.bank_history.specs.FalseEconomies.{Next}
@@ -64,4 +64,4 @@ pub record SessionCounts : Type 0 where
       counts_in (lent_session_of calls).rows ≡ counts (past_of calls).history
   -- "The unit reports seven counts in this order": so does the call that asks for them
   pub reported : {calls : List BankCall} → AllBytes calls →
-      count_call (lent_session_of calls).rows ≡ Counted (counts (past_of calls).history)
+      count_call (lent_session_of calls).rows ≡ Ok (counts (past_of calls).history)

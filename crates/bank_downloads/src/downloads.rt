@@ -1,6 +1,5 @@
 // A request to an open download.
-ghost use Rattle.std.specs.Prelude.{◌≡◌, ◌&&◌, ◌+◌, ◌<◌, eqb, leb, ltb};
-ghost use Rattle.frame_table.specs.Names.{segment};
+ghost use Rattle.std.specs.Prelude.{◌≡◌, ◌+◌, ◌<◌};
 ghost use Rattle.message.specs.Limits.{max_attempts};
 ghost use Rattle.bank_verdicts.specs.declared.verdict.DownloadAction.TheVariants as down;
 ghost use Rattle.bank_verdicts.specs.Refusals.{fits_download, is_sent_again, receipt_rows};
@@ -20,55 +19,35 @@ pub struct DownloadStep {
     pub action: DownloadAction,
 }
 
-// Whether the segment is the next one of n.
-fn is_next_of(segment: u64, delivered: u64, n: u64) -> bool
-    ensures { result ≡ (eqb segment (delivered + 1) && leb segment n) }
-{
-    if is_next(segment, delivered) {
-        return segment <= n;
-    }
-    false
-}
-
 // Whether the request fits a download of n segments.
 fn fits_download(r: TransactionRequest, e: Download, n: u64, q: Fields) -> bool
     ensures { result ≡ fits_download r e n q }
 {
     match r {
         TransactionRequest::UploadTransfer => false,
-        TransactionRequest::DownloadTransfer => is_next_of(q.segment(), e.delivered, n),
+        TransactionRequest::DownloadTransfer => {
+            is_next(q.segment(), e.delivered) && q.segment() <= n
+        }
         TransactionRequest::Receipt => e.delivered == n,
     }
-}
-
-// Whether the segment is one of the first `count`.
-fn is_among(segment: u64, count: u64) -> bool
-    ensures { result ≡ (ltb 0 segment && leb segment count) }
-{
-    if segment == 0 {
-        return false;
-    }
-    segment <= count
 }
 
 // Whether the request asks for a segment again.
 fn is_sent_again(r: TransactionRequest, e: Download, q: Fields) -> bool
     ensures { result ≡ is_sent_again r e q }
 {
-    match r {
-        TransactionRequest::UploadTransfer => false,
-        TransactionRequest::DownloadTransfer => is_among(q.segment(), e.delivered),
-        TransactionRequest::Receipt => false,
-    }
+    r == TransactionRequest::DownloadTransfer && (1..=e.delivered).contains(&q.segment())
 }
 
 // What a request that fits a download of n segments does.
+#[tactic(auto, unfolding(bank_verdicts::specs::Refusals::receipt_rows))]
 fn judge_fitting(r: TransactionRequest, n: u64, q: Fields) -> DownloadAction
     ensures { result ≡ judged (receipt_rows r q) (down.Delivered n) }
 {
     match r {
-        TransactionRequest::UploadTransfer => DownloadAction::Delivered(n),
-        TransactionRequest::DownloadTransfer => DownloadAction::Delivered(n),
+        TransactionRequest::UploadTransfer | TransactionRequest::DownloadTransfer => {
+            DownloadAction::Delivered(n)
+        }
         TransactionRequest::Receipt => {
             if q.receipt_code() == 0 {
                 DownloadAction::Confirmed
@@ -80,6 +59,7 @@ fn judge_fitting(r: TransactionRequest, n: u64, q: Fields) -> DownloadAction
 }
 
 // What a request to a download of n segments does.
+#[tactic(auto, unfolding(bank_verdicts::specs::Judgement::judge_download, bank_verdicts::specs::Refusals::download_rows, bank_verdicts::specs::Refusals::download_attempt))]
 pub fn judge_download(r: TransactionRequest, e: Download, n: u64, q: Fields) -> DownloadAction
     ensures { result ≡ judge_download r e n q }
 {
@@ -100,10 +80,11 @@ fn advanced_to(e: Download, clock: u64, delivered: u64) -> Download
     requires { delivered ≡ e.delivered + 1 }
     ensures { result ≡ advanced_to clock e }
 {
-    let mut a = e;
-    a.delivered = delivered;
-    a.last = clock;
-    a
+    Download {
+        delivered,
+        last: clock,
+        ..e
+    }
 }
 
 // The download with one recovery attempt more.
@@ -111,12 +92,14 @@ fn attempted(e: Download) -> Download
     requires { e.attempts < max_attempts }
     ensures { result ≡ attempted e }
 {
-    let mut a = e;
-    a.attempts = e.attempts + 1;
-    a
+    Download {
+        attempts: e.attempts + 1,
+        ..e
+    }
 }
 
 // A request to an open download of n segments arrives.
+#[tactic(auto, unfolding(crate::specs::Downloads::download_step))]
 pub fn download_step(
     clock: u64,
     r: TransactionRequest,
@@ -128,13 +111,12 @@ pub fn download_step(
 {
     let action = judge_download(r, e, n, q);
     let entry = match action {
-        DownloadAction::Opened(_) => e,
         DownloadAction::Delivered(_) => advanced_to(e, clock, q.segment()),
-        DownloadAction::SentAgain(_) => attempted(e),
-        DownloadAction::Point(_) => attempted(e),
-        DownloadAction::Cancelled => e,
-        DownloadAction::Confirmed => e,
-        DownloadAction::Declined => e,
+        DownloadAction::SentAgain(_) | DownloadAction::Point(_) => attempted(e),
+        DownloadAction::Opened(_)
+        | DownloadAction::Cancelled
+        | DownloadAction::Confirmed
+        | DownloadAction::Declined => e,
     };
     DownloadStep { entry, action }
 }

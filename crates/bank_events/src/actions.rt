@@ -20,9 +20,8 @@ fn action_kind(action: UploadAction) -> Kind
 {
     match action {
         UploadAction::Opened(_) => Kind::Opened,
-        UploadAction::Took => Kind::Unused,
+        UploadAction::Took | UploadAction::Point(_) => Kind::Unused,
         UploadAction::TookLast => Kind::Booked,
-        UploadAction::Point(_) => Kind::Unused,
         UploadAction::Cancelled(_) => Kind::Cancelled,
     }
 }
@@ -41,18 +40,14 @@ fn kind_of(action: Action) -> Kind
 fn signed_kind(added: bool) -> Kind
     ensures { result ≡ signed_kind added }
 {
-    if added {
-        return Kind::Signed;
-    }
-    Kind::Unused
+    if added { Kind::Signed } else { Kind::Unused }
 }
 
 fn verdict_kind(verdict: Verdict) -> Kind
     ensures { result ≡ verdict_kind verdict }
 {
     match verdict {
-        Verdict::Unreadable => Kind::Unused,
-        Verdict::Refused(_) => Kind::Unused,
+        Verdict::Unreadable | Verdict::Refused(_) => Kind::Unused,
         Verdict::Of(_, action) => kind_of(action),
         Verdict::Signed(_, added) => signed_kind(added),
     }
@@ -61,14 +56,7 @@ fn verdict_kind(verdict: Verdict) -> Kind
 fn is_event(kind: Kind) -> bool
     ensures { result ≡ is_event kind }
 {
-    match kind {
-        Kind::Unused => false,
-        Kind::Opened => true,
-        Kind::Booked => true,
-        Kind::Cancelled => true,
-        Kind::Dropped => true,
-        Kind::Signed => true,
-    }
+    !matches!(kind, Kind::Unused)
 }
 
 // The order number of the open upload that a request names; 0 where there is none.
@@ -78,11 +66,11 @@ pub fn named_order(rows: &[u64], q: Fields) -> u64
 {
     let id = q.transaction();
     let i = find_upload(rows, q.subscriber(), id.high, id.low);
-    if PLACE_COUNT <= i {
-        return 0;
+    if i < PLACE_COUNT {
+        place_at(rows, i).number
+    } else {
+        0
     }
-    let p = place_at(rows, i);
-    p.number
 }
 
 // The order number of the upload that an action is on: an opening's own, else that of the upload named.
@@ -91,10 +79,7 @@ fn action_order(action: UploadAction, named: u64) -> u64
 {
     match action {
         UploadAction::Opened(n) => n,
-        UploadAction::Took => named,
-        UploadAction::TookLast => named,
-        UploadAction::Point(_) => named,
-        UploadAction::Cancelled(_) => named,
+        _ => named,
     }
 }
 
@@ -111,8 +96,7 @@ pub fn verdict_order(verdict: Verdict, named: u64) -> u64
     ensures { result ≡ verdict_order verdict named }
 {
     match verdict {
-        Verdict::Unreadable => 0,
-        Verdict::Refused(_) => 0,
+        Verdict::Unreadable | Verdict::Refused(_) => 0,
         Verdict::Of(_, action) => order_of(action, named),
         Verdict::Signed(order, _) => order.number,
     }
@@ -123,10 +107,8 @@ fn verdict_subscriber(verdict: Verdict, q: Fields) -> u64
     ensures { result ≡ verdict_subscriber verdict q }
 {
     match verdict {
-        Verdict::Unreadable => q.subscriber(),
-        Verdict::Refused(_) => q.subscriber(),
-        Verdict::Of(_, _) => q.subscriber(),
-        Verdict::Signed(_, _) => q.owner(),
+        Verdict::Signed(..) => q.owner(),
+        _ => q.subscriber(),
     }
 }
 
@@ -135,8 +117,7 @@ fn verdict_id(verdict: Verdict) -> Bits128
     ensures { result ≡ verdict_id verdict }
 {
     match verdict {
-        Verdict::Unreadable => Bits128 { high: 0, low: 0 },
-        Verdict::Refused(_) => Bits128 { high: 0, low: 0 },
+        Verdict::Unreadable | Verdict::Refused(_) => Bits128 { high: 0, low: 0 },
         Verdict::Of(transaction, _) => transaction,
         Verdict::Signed(order, _) => order.transaction,
     }
@@ -146,8 +127,10 @@ fn verdict_id(verdict: Verdict) -> Bits128
 pub fn no_events() -> Batch
     ensures { Holds result [] }
 {
-    let entries = [NO_ENTRY; MAX_ENTRIES];
-    Batch { count: 0, entries }
+    Batch {
+        count: 0,
+        entries: [NO_ENTRY; MAX_ENTRIES],
+    }
 }
 
 // One event more.
@@ -168,19 +151,17 @@ pub fn with_action(batch: Batch, verdict: Verdict, order: u64, q: Fields) -> Bat
 {
     let kind = verdict_kind(verdict);
     if is_event(kind) {
-        let subscriber = verdict_subscriber(verdict, q);
         let id = verdict_id(verdict);
-        return with_entry(
-            batch,
-            Entry {
-                subscriber,
-                order_type: FUL,
-                order,
-                high: id.high,
-                low: id.low,
-                kind,
-            },
-        );
+        let entry = Entry {
+            subscriber: verdict_subscriber(verdict, q),
+            order_type: FUL,
+            order,
+            high: id.high,
+            low: id.low,
+            kind,
+        };
+        with_entry(batch, entry)
+    } else {
+        batch
     }
-    batch
 }

@@ -19,7 +19,7 @@ use Rattle.message.specs.declared.editions.Edition.TheVariants as edition
 use Rattle.message.specs.Editions.{edition_of, opened_form}
 use Rattle.message.specs.Replies.{download_opened, download_segment}
 use Rattle.message.proofs.Verdicts.{by-test}
-use Rattle.bank_verdicts.specs.declared.verdict.Direction.TheVariants as direction
+use Rattle.message.specs.declared.directions.Direction.TheVariants as direction
 use Rattle.bank_verdicts.specs.declared.verdict.UploadAction.TheVariants as up
 use Rattle.bank_verdicts.specs.declared.verdict.DownloadAction.TheVariants as down
 use Rattle.bank_verdicts.specs.declared.verdict.Action.{Action}

@@ -1,4 +1,7 @@
 -- From call to call: what a frame call leaves, which calls change a mailbox, and that nothing gone comes back.
+use Rattle.bank.specs.declared.mailbox.FileRefusal.{FileRefusal}
+use Rattle.number_table.specs.declared.table.WrongLength.{WrongLength}
+use Rattle.std.specs.Prelude.{Err, Ok, Result}
 use Prim.Native.Nat.{ℕ, ◌-◌, ◌≤◌, ◌<◌}
 use mathlib.Core.Bool.{true, false}
 use mathlib.Core.List.{List, []}
@@ -37,10 +40,7 @@ use Rattle.bank_verdicts.specs.declared.verdict.Verdict.TheVariants as verdict
 use Rattle.bank_verdicts.specs.Judgement.{upload_at, download_of, order_at}
 use Rattle.bank_signing.specs.Signings.{sign}
 use Rattle.bank_uploads.specs.Uploads.{grown, booked, attempted, place_after}
-use Rattle.bank.specs.declared.call.FrameAnswer.{FrameAnswer}
-use Rattle.bank.specs.declared.call.FrameAnswer.TheVariants.{Reply, WrongLength}
-use Rattle.bank.specs.declared.mailbox.FileAnswer.{FileAnswer}
-use Rattle.bank.specs.declared.mailbox.FileAnswer.TheVariants as put
+use Rattle.bank.specs.declared.mailbox.FileRefusal.TheVariants as put
 use Rattle.bank_steps.specs.Steps.{on_upload, download_acts, emptied, carry_out}
 use Rattle.bank.specs.Call.{context_of, Step, FrameCall, lent_right, replied, respond, frame_call, FrameInput}
 use Rattle.bank.specs.Mailbox.{file_number, carry_out_file, file_call}
@@ -80,9 +80,9 @@ after_frame_lem a p =
     x : Exchange
     x = call_exchange p.bank_state a
 
-    at : (r : FrameAnswer) → (entered r s.bank_state x p ≡ p) ⊎ (entered r s.bank_state x p ≡ answered a p)
-    at (Reply n) = inr refl
-    at WrongLength = inl refl
+    at : (r : Result ℕ WrongLength) → (entered r s.bank_state x p ≡ p) ⊎ (entered r s.bank_state x p ≡ answered a p)
+    at (Ok n) = inr refl
+    at (Err e) = inl refl
 
 -- a call at a time over the last one leaves all as it was
 pub late-frame : (a : FrameInput) (p : Past) → last_time < a.time → after (Frame a) p ≡ p
@@ -105,21 +105,21 @@ pub after-file : (mailbox : ℕ) (file : List ℕ) (p : Past) → Holds p →
 unfolding after file_call
 after-file mailbox file p holds = at (judged-file p.bank_state.bank mailbox file p.bank_state.mailboxes)
   where
-    c : FileAnswer → Past
+    c : Result (Unit {0}) FileRefusal → Past
     c a = let f = carry_out_file a p.bank_state.bank mailbox file p.bank_state.mailboxes in placed f.answer f.bank f.mailboxes p
 
     Out : Past → Type 0
     Out r = (r ≡ p) ⊎ ((r ≡ record { bank_state = filled mailbox file p.bank_state; history = p.history }) × Filled p.bank_state
         (filled mailbox file p.bank_state) mailbox file)
 
-    stays : (a : FileAnswer) → 0 < file_number a → c a ≡ p
-    stays put.Done h = absurd (omega arith)
-    stays put.WrongLength h = refl
-    stays put.NoMailbox h = refl
-    stays put.WrongFile h = refl
-    stays put.MailboxFull h = refl
+    stays : (a : Result (Unit {0}) FileRefusal) → 0 < file_number a → c a ≡ p
+    stays (Ok u) h = absurd (omega arith)
+    stays (Err put.WrongLength) h = refl
+    stays (Err put.NoMailbox) h = refl
+    stays (Err put.WrongFile) h = refl
+    stays (Err put.MailboxFull) h = refl
 
-    at : {a : FileAnswer} → FileSound p.bank_state.bank mailbox file p.bank_state.mailboxes a → Out (c a)
+    at : {a : Result (Unit {0}) FileRefusal} → FileSound p.bank_state.bank mailbox file p.bank_state.mailboxes a → Out (c a)
     at {a} (rejected h) = inl (stays a h)
     at (done known most some short empty) = inr (
       refl,

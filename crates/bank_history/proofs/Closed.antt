@@ -10,13 +10,12 @@ use Rattle.frame_table.specs.Names.{subscriber, transaction, same_bits}
 use Rattle.frame_table.proofs.Bits.{bits-same}
 use Rattle.octets.proofs.Tests.{never}
 use Rattle.message.proofs.Verdicts.{by-test}
-use Rattle.bank_state.specs.declared.state.Download.{Download}
 use Rattle.bank_state.specs.Clock.{is_idle}
 use Rattle.bank_state.specs.Search.{is_open}
 use Rattle.bank_state.specs.State.{BankState, place_at, download_at}
 use Rattle.bank_state.proofs.Found.{upload-found, download-found}
-use Rattle.bank_verdicts.specs.declared.verdict.Direction.{Direction}
-use Rattle.bank_verdicts.specs.declared.verdict.Direction.TheVariants as direction
+use Rattle.message.specs.declared.directions.Direction.{Direction}
+use Rattle.message.specs.declared.directions.Direction.TheVariants as direction
 use Rattle.bank_verdicts.specs.declared.verdict.UploadAction.TheVariants as up
 use Rattle.bank_verdicts.specs.declared.verdict.DownloadAction.TheVariants as down
 use Rattle.bank_verdicts.specs.declared.verdict.Action.{Action}

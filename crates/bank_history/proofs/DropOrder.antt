@@ -32,8 +32,8 @@ use Rattle.bank_state.specs.Rows.{keep}
 use Rattle.bank_state.specs.Search.{is_free, is_open}
 use Rattle.bank_state.specs.State.{BankState, no_place, place_at}
 use Rattle.bank_state.specs.Store.{part_at}
-use Rattle.bank_verdicts.specs.declared.verdict.Direction.{Direction}
-use Rattle.bank_verdicts.specs.declared.verdict.Direction.TheVariants as direction
+use Rattle.message.specs.declared.directions.Direction.{Direction}
+use Rattle.message.specs.declared.directions.Direction.TheVariants as direction
 use Rattle.bank_verdicts.specs.declared.verdict.UploadAction.TheVariants as up
 use Rattle.bank_verdicts.specs.declared.verdict.DownloadAction.TheVariants as down
 use Rattle.bank_verdicts.specs.declared.verdict.Action.{Action}

@@ -25,7 +25,7 @@ use Rattle.message.proofs.Verdicts.{by-test}
 use Rattle.bank_state.specs.Clock.{is_idle, advanced}
 use Rattle.bank_state.specs.Rows.{keep}
 use Rattle.bank_state.specs.State.{BankState}
-use Rattle.bank_verdicts.specs.declared.verdict.Direction.{Direction}
+use Rattle.message.specs.declared.directions.Direction.{Direction}
 use Rattle.bank_verdicts.specs.declared.verdict.UploadAction.TheVariants as up
 use Rattle.bank_verdicts.specs.declared.verdict.DownloadAction.TheVariants as down
 use Rattle.bank_verdicts.specs.declared.verdict.Action.{Action}

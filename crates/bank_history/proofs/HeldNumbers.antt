@@ -19,8 +19,8 @@ use Rattle.bank_state.specs.Search.{is_free, is_open, holds_number, find_number,
 use Rattle.bank_state.specs.State.{BankState, no_place, place_at}
 use Rattle.bank_state.specs.Store.{part_at}
 use Rattle.bank_state.proofs.Rows.{first_passes}
-use Rattle.bank_verdicts.specs.declared.verdict.Direction.{Direction}
-use Rattle.bank_verdicts.specs.declared.verdict.Direction.TheVariants as direction
+use Rattle.message.specs.declared.directions.Direction.{Direction}
+use Rattle.message.specs.declared.directions.Direction.TheVariants as direction
 use Rattle.bank_admitted.proofs.Rows.{first-at-most}
 use Rattle.bank_history.specs.History.{Exchange, BankCall, is_booking, ever, past_of}
 use Rattle.bank_history.specs.FalseEconomies.{Next}

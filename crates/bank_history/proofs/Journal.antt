@@ -1,4 +1,6 @@
 -- The journal after every list of calls holds the events that requests, replies and clocks tell.
+use Rattle.number_table.specs.declared.table.WrongLength.{WrongLength}
+use Rattle.std.specs.Prelude.{Err, Ok, Result}
 use Prim.Native.Nat.{ℕ, ◌+◌, ◌<◌, max}
 use mathlib.Core.Bool.{Bool, true, false, cond, not, ◌&&◌}
 use mathlib.Core.List.{List, [], ◌∷◌, ◌++◌, map}
@@ -58,8 +60,6 @@ use Rattle.bank_events.specs.Entries.{
   action_entries,
   call_entries,
 }
-use Rattle.bank.specs.declared.call.FrameAnswer.{FrameAnswer}
-use Rattle.bank.specs.declared.call.FrameAnswer.TheVariants.{Reply, WrongLength}
 use Rattle.bank.specs.Call.{context_of, FrameInput, respond, frame_call}
 use Rattle.bank.specs.Journal.{entered_by, journal_after, journal_by}
 use Rattle.bank_history.specs.History.{Exchange, BankCall, Frame, File, Past, is_opening, is_booking, is_download_opening, ever, call_exchange, segments_at, entered, after, start, past_of}
@@ -440,15 +440,15 @@ journal-holds (c ∷ calls) = over c (journal-holds calls)
     j : Journal
     j = journal_of calls
 
-    answered-by : (a : FrameInput) (r : FrameAnswer) → (frame_call p.bank_state a).answer ≡ r → Holding j (events_in p.history) →
+    answered-by : (a : FrameInput) (r : Result ℕ WrongLength) → (frame_call p.bank_state a).answer ≡ r → Holding j (events_in p.history) →
         Holding (journal_by r (journal_after p.bank_state a j) j)
         (events_in (entered r (frame_call p.bank_state a).bank_state (call_exchange p.bank_state a) p).history)
-    answered-by a (Reply m) z k =
+    answered-by a (Ok m) z k =
         answered-holds {calls = calls} {e = call_exchange p.bank_state a} (record {
           input = a;
-          entered = ap (λ (r : FrameAnswer). (entered r (frame_call p.bank_state a).bank_state (call_exchange p.bank_state a) p).history) z;
+          entered = ap (λ (r : Result ℕ WrongLength). (entered r (frame_call p.bank_state a).bank_state (call_exchange p.bank_state a) p).history) z;
         }) k
-    answered-by a WrongLength z k = k
+    answered-by a (Err e) z k = k
 
     over : (d : BankCall) → Holding j (events_in p.history) → Holding (journal_over d p j) (events_in (after d p).history)
     over (Frame a) k = answered-by a (frame_call p.bank_state a).answer refl k

@@ -47,8 +47,8 @@ use Rattle.journal.specs.Events.{events_from}
 use Rattle.journal.specs.Row.{transaction_of, is_of}
 use Rattle.journal.proofs.Events.{events-length}
 use Rattle.bank_events.specs.Entries.{order_in, action_entries}
-use Rattle.bank_verdicts.specs.declared.verdict.Direction.{Direction}
-use Rattle.bank_verdicts.specs.declared.verdict.Direction.TheVariants as direction
+use Rattle.message.specs.declared.directions.Direction.{Direction}
+use Rattle.message.specs.declared.directions.Direction.TheVariants as direction
 use Rattle.bank_verdicts.specs.declared.verdict.UploadAction.{UploadAction}
 use Rattle.bank_verdicts.specs.declared.verdict.UploadAction.TheVariants as up
 use Rattle.bank_verdicts.specs.declared.verdict.DownloadAction.TheVariants as down

@@ -29,8 +29,8 @@ use Rattle.bank_state.specs.declared.state.Place.{Place}
 use Rattle.bank_state.specs.declared.state.Use.TheVariants as uses
 use Rattle.bank_state.specs.State.{BankState, place_at}
 use Rattle.bank_state.proofs.Found.{upload-found}
-use Rattle.bank_verdicts.specs.declared.verdict.Direction.{Direction}
-use Rattle.bank_verdicts.specs.declared.verdict.Direction.TheVariants as direction
+use Rattle.message.specs.declared.directions.Direction.{Direction}
+use Rattle.message.specs.declared.directions.Direction.TheVariants as direction
 use Rattle.bank_verdicts.specs.declared.verdict.UploadAction.{UploadAction}
 use Rattle.bank_verdicts.specs.declared.verdict.UploadAction.TheVariants as up
 use Rattle.bank_verdicts.specs.declared.verdict.Action.TheVariants as action

@@ -1,4 +1,7 @@
 -- Every call keeps the invariant: each case of a request, a frame call, a file call, and every list of calls.
+use Rattle.bank.specs.declared.mailbox.FileRefusal.{FileRefusal}
+use Rattle.number_table.specs.declared.table.WrongLength.{WrongLength}
+use Rattle.std.specs.Prelude.{Err, Ok, Result}
 use Prim.{tt}
 use Prim.Native.Nat.{ℕ, ◌-◌, ◌≤◌, ◌<◌}
 use mathlib.Core.Bool.{false}
@@ -22,10 +25,7 @@ use Rattle.bank_state.specs.Clock.{advanced}
 use Rattle.bank_state.specs.Rows.{first_of, keep}
 use Rattle.bank_state.specs.Limits.{place_count}
 use Rattle.bank_state.specs.State.{BankState, fresh, place_at, download_at, series_of}
-use Rattle.bank.specs.declared.call.FrameAnswer.{FrameAnswer}
-use Rattle.bank.specs.declared.call.FrameAnswer.TheVariants.{Reply, WrongLength}
-use Rattle.bank.specs.declared.mailbox.FileAnswer.{FileAnswer}
-use Rattle.bank.specs.declared.mailbox.FileAnswer.TheVariants as put
+use Rattle.bank.specs.declared.mailbox.FileRefusal.TheVariants as put
 use Rattle.bank_steps.specs.Steps.{carry_out}
 use Rattle.bank.specs.Call.{context_of, Step, FrameCall, lent_right, replied, respond, frame_call, FrameInput}
 use Rattle.bank.specs.Mailbox.{file_number, carry_out_file, file_call}
@@ -117,10 +117,10 @@ module _ (context : Context) (w : BankState) (h : List Exchange) (v : Invariant 
 -- ---- the calls
 
 -- "a number, nothing changed"; else what the request came to
-entered-holds : (p : Past) (a : FrameAnswer) (w : BankState) (e : Exchange) → Holds p → Invariant w (e ∷ p.history) → NoneIdle w →
+entered-holds : (p : Past) (a : Result ℕ WrongLength) (w : BankState) (e : Exchange) → Holds p → Invariant w (e ∷ p.history) → NoneIdle w →
     Holds (entered a w e p)
-entered-holds p (Reply n) w e old v not_idle = record { invariant = v; current = not_idle }
-entered-holds p WrongLength w e old v not_idle = old
+entered-holds p (Ok n) w e old v not_idle = record { invariant = v; current = not_idle }
+entered-holds p (Err x) w e old v not_idle = old
 
 frame-holds : (p : Past) (a : FrameInput) → Holds p → Holds (after (Frame a) p)
 unfolding after frame_call
@@ -159,16 +159,16 @@ file-holds p mailbox file old = at (judged-file p.bank_state.bank mailbox file p
     b : Bank
     b = p.bank_state.bank
 
-    rejected-stays : (a : FileAnswer) → 0 < file_number a →
+    rejected-stays : (a : Result (Unit {0}) FileRefusal) → 0 < file_number a →
         Holds (placed (carry_out_file a b mailbox file mailboxes).answer (carry_out_file a b mailbox file mailboxes).bank
         (carry_out_file a b mailbox file mailboxes).mailboxes p)
-    rejected-stays put.Done h = absurd (omega arith)
-    rejected-stays put.WrongLength h = old
-    rejected-stays put.NoMailbox h = old
-    rejected-stays put.WrongFile h = old
-    rejected-stays put.MailboxFull h = old
+    rejected-stays (Ok u) h = absurd (omega arith)
+    rejected-stays (Err put.WrongLength) h = old
+    rejected-stays (Err put.NoMailbox) h = old
+    rejected-stays (Err put.WrongFile) h = old
+    rejected-stays (Err put.MailboxFull) h = old
 
-    at : {a : FileAnswer} → FileSound b mailbox file mailboxes a →
+    at : {a : Result (Unit {0}) FileRefusal} → FileSound b mailbox file mailboxes a →
         Holds (placed (carry_out_file a b mailbox file mailboxes).answer (carry_out_file a b mailbox file mailboxes).bank
         (carry_out_file a b mailbox file mailboxes).mailboxes p)
     at {a} (rejected h) = rejected-stays a h

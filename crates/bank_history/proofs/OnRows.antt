@@ -1,5 +1,7 @@
 -- The calls on lent memory are the calls on the bank that the rows are: what a call leaves is stored and read back,
 -- since the invariant's bank is one that rows can hold and in range. A bank in range writes every reply.
+use Rattle.bank.specs.declared.mailbox.FileRefusal.{FileRefusal}
+use Rattle.std.specs.Prelude.{Err, Ok, Result}
 use Prim.Native.Nat.{ℕ}
 use mathlib.Core.Bool.{Bool, true, false}
 use mathlib.Core.List.{List, [], ◌∷◌}
@@ -18,8 +20,7 @@ use Rattle.bank_rows.specs.State.{bank_of}
 use Rattle.bank_sound.proofs.Range.{zeros-sound}
 use Rattle.bank_rows.proofs.State.{fresh-rows, held_rows}
 use Rattle.bank_sound.proofs.Test.{sound-laid, sound-range}
-use Rattle.bank.specs.declared.mailbox.FileAnswer.{FileAnswer}
-use Rattle.bank.specs.declared.mailbox.FileAnswer.TheVariants as put
+use Rattle.bank.specs.declared.mailbox.FileRefusal.TheVariants as put
 use Rattle.bank.specs.Call.{FrameInput, FrameCall, frame_number, lent_right, frame_call}
 use Rattle.bank.specs.Mailbox.{file_refusals, carry_out_file, file_call}
 use Rattle.bank_steps.specs.Lent.{Lent, state_of}
@@ -57,14 +58,14 @@ unfolding lent_file_call
 lent-file rows mailbox file mailboxes sound = rw sound
 
 -- a file call's bank and mailboxes are those of the past after it, whatever its answer
-file-placed : (r : FileAnswer) (p : Past) (mailbox : ℕ) (file : List ℕ) →
+file-placed : (r : Result (Unit {0}) FileRefusal) (p : Past) (mailbox : ℕ) (file : List ℕ) →
     let c = carry_out_file r p.bank_state.bank mailbox file p.bank_state.mailboxes in
     bank_state c.bank p.bank_state.orders c.mailboxes ≡ (placed c.answer c.bank c.mailboxes p).bank_state
-file-placed put.Done p mailbox file = refl
-file-placed put.WrongLength p mailbox file = refl
-file-placed put.NoMailbox p mailbox file = refl
-file-placed put.WrongFile p mailbox file = refl
-file-placed put.MailboxFull p mailbox file = refl
+file-placed (Ok u) p mailbox file = refl
+file-placed (Err put.WrongLength) p mailbox file = refl
+file-placed (Err put.NoMailbox) p mailbox file = refl
+file-placed (Err put.WrongFile) p mailbox file = refl
+file-placed (Err put.MailboxFull) p mailbox file = refl
 
 module _ {calls : List BankCall} (given : AllBytes calls) (m : Lent) (sound : is_sound m.rows ≡ true)
     (same : state_of m ≡ (past_of calls).bank_state) where
@@ -83,8 +84,8 @@ module _ {calls : List BankCall} (given : AllBytes calls) (m : Lent) (sound : is
   unfolding lent_after after file_call
   after-file mailbox file =
       let rows = m.rows in
-      let answer : BankState → FileAnswer = λ (w : BankState).
-      decide (file_refusals w.bank mailbox file w.mailboxes) put.Done in
+      let answer : BankState → Result (Unit {0}) FileRefusal = λ (w : BankState).
+      decide (file_refusals w.bank mailbox file w.mailboxes) (Ok tt) in
       let left : BankState → BankState = λ (w : BankState).
       let c = carry_out_file (answer w) w.bank mailbox file w.mailboxes in
       bank_state c.bank w.orders c.mailboxes in

@@ -1,5 +1,8 @@
 -- The calls on a lent session are the calls on the bank's own memory and on the journal, call by call: the number of
 -- events and the counts stay far below their limits, so that no call is turned away for them.
+use Rattle.bank.specs.declared.mailbox.FileRefusal.{FileRefusal}
+use Rattle.number_table.specs.declared.table.WrongLength.{WrongLength}
+use Rattle.std.specs.Prelude.{Err, Ok, Result}
 use Prim.Native.Nat.{ℕ}
 use mathlib.Core.Bool.{true}
 use mathlib.Core.List.{List, [], ◌∷◌}
@@ -11,10 +14,7 @@ use Rattle.journal.specs.Row.{Journal}
 use Rattle.journal.proofs.Laws.{row-of-length}
 use Rattle.bank_state.specs.State.{BankState}
 use Rattle.bank_steps.specs.Lent.{Lent, lent, state_of}
-use Rattle.bank.specs.declared.call.FrameAnswer.{FrameAnswer}
-use Rattle.bank.specs.declared.call.FrameAnswer.TheVariants as reply
-use Rattle.bank.specs.declared.mailbox.FileAnswer.{FileAnswer}
-use Rattle.bank.specs.declared.mailbox.FileAnswer.TheVariants as put
+use Rattle.bank.specs.declared.mailbox.FileRefusal.TheVariants as put
 use Rattle.bank.specs.Call.{FrameInput, FrameCall, frame_call}
 use Rattle.bank.specs.Journal.{journal_after, journal_by}
 use Rattle.bank.specs.Lent.{LentFrameCall, lent_frame_call, lent_file_call}
@@ -86,12 +86,12 @@ module _ (m : LentSession) (calls : List BankCall) (given : AllBytes calls) (s :
       c : Counts
       c = counts_in m.rows
 
-      at : (x : FrameAnswer) → left.answer ≡ x →
+      at : (x : Result ℕ WrongLength) → left.answer ≡ x →
           CountsHold (entered x left.bank_state e p).bank_state.bank (counts_by x (counts_over w a c) c)
-      at (reply.Reply n) z =
-          subst (λ (x : FrameAnswer). CountsHold left.bank_state.bank (counts_by x (counts_over w a c) c)) z
+      at (Ok n) z =
+          subst (λ (x : Result ℕ WrongLength). CountsHold left.bank_state.bank (counts_by x (counts_over w a c) c)) z
           (kept.frame-counts w (past-holds calls).invariant.state a c s.counts (record { ids = b.0; frame = b.1 }))
-      at reply.WrongLength z = s.counts
+      at (Err e) z = s.counts
 
   file-counted : (mailbox : ℕ) (file : List ℕ) →
       CountsHold (past_of (File mailbox file ∷ calls)).bank_state.bank (counts_in m.rows)
@@ -104,12 +104,12 @@ module _ (m : LentSession) (calls : List BankCall) (given : AllBytes calls) (s :
       left : FileCall
       left = file_call p.bank_state.bank mailbox file p.bank_state.mailboxes
 
-      at : (x : FileAnswer) → CountsHold (placed x left.bank left.mailboxes p).bank_state.bank (counts_in m.rows)
-      at put.Done = kept.file-counts p.bank_state (counts_in m.rows) s.counts mailbox file
-      at put.WrongLength = s.counts
-      at put.NoMailbox = s.counts
-      at put.WrongFile = s.counts
-      at put.MailboxFull = s.counts
+      at : (x : Result (Unit {0}) FileRefusal) → CountsHold (placed x left.bank left.mailboxes p).bank_state.bank (counts_in m.rows)
+      at (Ok u) = kept.file-counts p.bank_state (counts_in m.rows) s.counts mailbox file
+      at (Err put.WrongLength) = s.counts
+      at (Err put.NoMailbox) = s.counts
+      at (Err put.WrongFile) = s.counts
+      at (Err put.MailboxFull) = s.counts
 
   -- the session's counts after a frame call, by the bank before it
   pub counts-next : (a : FrameInput) →
@@ -124,7 +124,7 @@ module _ (m : LentSession) (calls : List BankCall) (given : AllBytes calls) (s :
       let answered = ap (λ (k : LentFrameCall). k.answer) (on-rows.frame given a) in
       frame-counts m a (same_taken m calls s)
       ∙ (ap by s.bank
-      ∙ (ap (λ (r : FrameAnswer). counts_by r (counts_over (state_of (lent_of calls)) a c) c) answered
+      ∙ (ap (λ (r : Result ℕ WrongLength). counts_by r (counts_over (state_of (lent_of calls)) a c) c) answered
       ∙ ap (λ (v : BankState). counts_by (frame_call w a).answer (counts_over v a c) c) (on-rows.state given)))
 
   frame_same : (a : FrameInput) → BytesIn (Frame a) → Same (session_after (Frame a) m) (Frame a ∷ calls)
@@ -142,7 +142,7 @@ module _ (m : LentSession) (calls : List BankCall) (given : AllBytes calls) (s :
         journal = frame-journal m a t
             ∙ (ap (λ (n : Lent). next a n (journal_in m)) s.bank
             ∙ (ap (next a now) s.journal
-            ∙ (ap (λ (r : FrameAnswer). journal_by r (journal_after (state_of now) a j) j) answered
+            ∙ (ap (λ (r : Result ℕ WrongLength). journal_by r (journal_after (state_of now) a j) j) answered
             ∙ ap (λ (v : BankState). journal_by (frame_call w a).answer (journal_after v a j) j) (on-rows.state given))));
         counts = subst (CountsHold (past_of (Frame a ∷ calls)).bank_state.bank) (sym (counts-next a)) (frame-counted a b);
       }

@@ -24,8 +24,8 @@ use Rattle.message.specs.Editions.{edition_of}
 use Rattle.bank_state.specs.Limits.{place_count, idle_limit}
 use Rattle.bank_state.specs.Search.{find_upload, find_download}
 use Rattle.bank_state.specs.State.{BankState}
-use Rattle.bank_verdicts.specs.declared.verdict.Direction.{Direction}
-use Rattle.bank_verdicts.specs.declared.verdict.Direction.TheVariants as directions
+use Rattle.message.specs.declared.directions.Direction.{Direction}
+use Rattle.message.specs.declared.directions.Direction.TheVariants as directions
 use Rattle.bank_verdicts.specs.declared.verdict.UploadAction.TheVariants as up
 use Rattle.bank_verdicts.specs.declared.verdict.DownloadAction.TheVariants as down
 use Rattle.bank_verdicts.specs.declared.verdict.Action.{Action}

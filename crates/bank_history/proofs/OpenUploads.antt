@@ -8,7 +8,7 @@ use lib.Seq.{get_or-set_other}
 use borrow.Author.Tests.{le-ltb}
 use Rattle.frame_table.specs.declared.fields.Bits128.{Bits128}
 use Rattle.frame_table.specs.declared.fields.Fields.{Fields}
-use Rattle.frame_table.specs.Names.{subscriber, transaction, order_number, owner, same_bits}
+use Rattle.frame_table.specs.Names.{order_number, owner, same_bits}
 use Rattle.octets.proofs.Tests.{never, and-true-right}
 use Rattle.bank_state.specs.declared.state.Place.{Place}
 use Rattle.bank_state.specs.Clock.{is_idle, advanced}

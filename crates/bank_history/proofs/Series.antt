@@ -33,8 +33,8 @@ use Rattle.bank_state.specs.Search.{is_number_held}
 use Rattle.bank_state.specs.State.{Bank, series_of}
 use Rattle.bank_state.proofs.Numbers.{next-from, next-passed}
 use Rattle.bank_verdicts.specs.declared.verdict.Context.{Context}
-use Rattle.bank_verdicts.specs.declared.verdict.Direction.{Direction}
-use Rattle.bank_verdicts.specs.declared.verdict.Direction.TheVariants as direction
+use Rattle.message.specs.declared.directions.Direction.{Direction}
+use Rattle.message.specs.declared.directions.Direction.TheVariants as direction
 use Rattle.bank_verdicts.specs.declared.verdict.TransactionRequest.{TransactionRequest}
 use Rattle.bank_verdicts.specs.declared.verdict.TransactionRequest.TheVariants as asks
 use Rattle.bank_verdicts.specs.declared.verdict.UploadAction.{UploadAction}
@@ -69,7 +69,7 @@ use Rattle.bank_verdicts.specs.Judgement.{
   judge_form,
   judge,
 }
-use Rattle.bank_verdicts.proofs.Lines.{no_row, each-such, judged-by, not-given, passed, held}
+use Rattle.bank_verdicts.proofs.Lines.{no_row, each-such, judged-by, not-given, held}
 use Rattle.bank_verdicts.proofs.Series.{number-unheld, number-own}
 use Rattle.bank_verdicts.proofs.Sound.{Numbered}
 use Rattle.bank_steps.proofs.Cases.{

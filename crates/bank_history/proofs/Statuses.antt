@@ -12,7 +12,7 @@ use lib.Seq.{get_or-set_same}
 use borrow.Author.Tests.{ltb-false, not-true, eq-eqb}
 use Rattle.frame_table.specs.declared.fields.Bits128.{Bits128}
 use Rattle.frame_table.specs.declared.fields.Fields.{Fields}
-use Rattle.frame_table.specs.Names.{subscriber, transaction, segments, same_bits}
+use Rattle.frame_table.specs.Names.{subscriber, transaction, same_bits}
 use Rattle.frame_table.proofs.Bits.{bits-same}
 use Rattle.frame_reader.specs.Reader.{read_request}
 use Rattle.frame_row.specs.Row.{data_of}
@@ -30,8 +30,8 @@ use Rattle.bank_state.specs.State.{BankState, no_place, no_download, fresh, plac
 use Rattle.bank_state.proofs.Drops.{each-end_downloads}
 use Rattle.bank_state.proofs.Found.{upload-found, download-found}
 use Rattle.bank_openings.specs.Openings.{counted, counted_upload, open_upload, open_download}
-use Rattle.bank_verdicts.specs.declared.verdict.Direction.{Direction}
-use Rattle.bank_verdicts.specs.declared.verdict.Direction.TheVariants as direction
+use Rattle.message.specs.declared.directions.Direction.{Direction}
+use Rattle.message.specs.declared.directions.Direction.TheVariants as direction
 use Rattle.bank_verdicts.specs.declared.verdict.UploadAction.{UploadAction}
 use Rattle.bank_verdicts.specs.declared.verdict.UploadAction.TheVariants as up
 use Rattle.bank_verdicts.specs.declared.verdict.DownloadAction.{DownloadAction}

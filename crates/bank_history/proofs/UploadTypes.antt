@@ -16,7 +16,7 @@ use Rattle.message.specs.Editions.{edition_of, opening_form}
 use Rattle.message.specs.Limits.{ful, fdl}
 use Rattle.bank_state.specs.State.{Bank}
 use Rattle.bank_verdicts.specs.declared.verdict.Context.{Context}
-use Rattle.bank_verdicts.specs.declared.verdict.Direction.TheVariants as direction
+use Rattle.message.specs.declared.directions.Direction.TheVariants as direction
 use Rattle.bank_verdicts.specs.declared.verdict.Action.{Action}
 use Rattle.bank_verdicts.specs.declared.verdict.Action.TheVariants as action
 use Rattle.bank_verdicts.specs.declared.verdict.Verdict.{Verdict}

@@ -1,10 +1,10 @@
 -- "Every frame gets its reply": calls whose lent bytes are bytes, and what the answer to a frame is, as bytes.
+use Rattle.std.specs.Prelude.{Ok}
 use Rattle.std.specs.Prelude.{ℕ, ◌≤◌, List, [], ◌∷◌, ◌≡◌, take, drop}
 use Rattle.frame_reader.specs.Reader.{read_reply}
 use Rattle.frame_row.specs.Row.{data_of}
 use Rattle.frame_writer.specs.Writer.{reply_room, smallest_reply}
 use Rattle.octets.specs.Bytes.{Bytes}
-use Rattle.bank.specs.declared.call.FrameAnswer.TheVariants.{Reply}
 use Rattle.bank.specs.Call.{FrameCall}
 use Rattle.bank_history.specs.History.{Exchange, BankCall, Frame, File}
 
@@ -21,7 +21,7 @@ pub data AllBytes : List BankCall → Type 0 where
 -- "reply bytes behind the reply are untouched"
 pub record FrameAnswered (c : FrameCall) (old : List ℕ) (e : Exchange) : Type 0 where
   pub size : ℕ
-  pub answer : c.answer ≡ Reply size
+  pub answer : c.answer ≡ Ok size
   pub least : smallest_reply ≤ size
   pub most : size ≤ reply_room
   pub fields : read_reply (take size c.buffer) ≡ e.reply

@@ -9,7 +9,7 @@ use Rattle.message.specs.declared.codes.ReturnCode.TheVariants as code
 use Rattle.message.specs.Codes.{code_field}
 use Rattle.message.specs.Editions.{order_opened}
 use Rattle.message.specs.OrderNumbers.{order_in}
-use Rattle.bank_verdicts.specs.declared.verdict.Direction.TheVariants as direction
+use Rattle.message.specs.declared.directions.Direction.TheVariants as direction
 use Rattle.bank_history.specs.History.{Exchange}
 use Rattle.bank_history.specs.Opened.{of_reply, is_own_opened, is_upload_opened, is_opened}
 use Rattle.bank_history.specs.Sound.{is_cancelling}

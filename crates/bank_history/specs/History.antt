@@ -1,4 +1,7 @@
 -- The bank's calls, the history of requests and replies that they leave, and what a history says of one transaction.
+use Rattle.bank.specs.declared.mailbox.FileRefusal.{FileRefusal}
+use Rattle.number_table.specs.declared.table.WrongLength.{WrongLength}
+use Rattle.std.specs.Prelude.{Err, Ok, Result}
 use Rattle.std.specs.Prelude.{ℕ, suc, ◌+◌, Bool, true, false, cond, ◌&&◌, ◌||◌, List, [], ◌∷◌, ◌++◌, ◌≡◌, eqb, leb, replicate}
 use Rattle.frame_table.specs.declared.fields.Bits128.{Bits128}
 use Rattle.frame_table.specs.declared.fields.Fields.{Fields}
@@ -27,10 +30,7 @@ use Rattle.bank_verdicts.specs.declared.verdict.Action.{Action}
 use Rattle.bank_verdicts.specs.declared.verdict.Action.TheVariants as action
 use Rattle.bank_verdicts.specs.declared.verdict.Verdict.{Verdict}
 use Rattle.bank_verdicts.specs.declared.verdict.Verdict.TheVariants as verdict
-use Rattle.bank.specs.declared.call.FrameAnswer.{FrameAnswer}
-use Rattle.bank.specs.declared.call.FrameAnswer.TheVariants.{Reply, WrongLength}
-use Rattle.bank.specs.declared.mailbox.FileAnswer.{FileAnswer}
-use Rattle.bank.specs.declared.mailbox.FileAnswer.TheVariants as put
+use Rattle.bank.specs.declared.mailbox.FileRefusal.TheVariants as put
 use Rattle.bank.specs.Call.{context_of, Step, respond, FrameInput, frame_call}
 use Rattle.bank.specs.Mailbox.{file_call}
 
@@ -77,18 +77,18 @@ pub record Past : Type 0 where
   pub history : List Exchange
 
 -- a frame call's answer: a reply is entered; "a number, nothing changed"
-abbrev pub entered : FrameAnswer → BankState → Exchange → Past → Past
-entered (Reply n) w e p = record { bank_state = w; history = e ∷ p.history }
-entered WrongLength w e p = p
+abbrev pub entered : Result ℕ WrongLength → BankState → Exchange → Past → Past
+entered (Ok n) w e p = record { bank_state = w; history = e ∷ p.history }
+entered (Err x) w e p = p
 
 -- a file call's answer
-abbrev pub placed : FileAnswer → Bank → List ℕ → Past → Past
-placed put.Done b mailboxes p =
+abbrev pub placed : Result (Unit {0}) FileRefusal → Bank → List ℕ → Past → Past
+placed (Ok u) b mailboxes p =
     record { bank_state = bank_state b p.bank_state.orders mailboxes; history = p.history }
-placed put.WrongLength b mailboxes p = p
-placed put.NoMailbox b mailboxes p = p
-placed put.WrongFile b mailboxes p = p
-placed put.MailboxFull b mailboxes p = p
+placed (Err put.WrongLength) b mailboxes p = p
+placed (Err put.NoMailbox) b mailboxes p = p
+placed (Err put.WrongFile) b mailboxes p = p
+placed (Err put.MailboxFull) b mailboxes p = p
 
 -- what a call leaves
 unfoldable pub after : BankCall → Past → Past

@@ -9,8 +9,8 @@ use Rattle.message.specs.Codes.{code_field}
 use Rattle.message.specs.OrderNumbers.{order_number_of}
 use Rattle.bank_state.specs.Clock.{is_idle}
 use Rattle.bank_state.specs.Rows.{keep}
-use Rattle.bank_verdicts.specs.declared.verdict.Direction.{Direction}
-use Rattle.bank_verdicts.specs.declared.verdict.Direction.TheVariants as direction
+use Rattle.message.specs.declared.directions.Direction.{Direction}
+use Rattle.message.specs.declared.directions.Direction.TheVariants as direction
 use Rattle.bank_verdicts.specs.declared.verdict.Verdict.TheVariants.{Unreadable}
 use Rattle.journal.specs.declared.event.Kind.{Kind}
 use Rattle.journal.specs.declared.event.Kind.TheVariants as kind

@@ -11,8 +11,8 @@ use Rattle.message.specs.Limits.{ful, subscribers}
 use Rattle.message.specs.OrderNumbers.{order_number_of, order_in}
 use Rattle.bank_state.specs.Limits.{series_limit}
 use Rattle.bank_state.specs.State.{series_of}
-use Rattle.bank_verdicts.specs.declared.verdict.Direction.{Direction}
-use Rattle.bank_verdicts.specs.declared.verdict.Direction.TheVariants as direction
+use Rattle.message.specs.declared.directions.Direction.{Direction}
+use Rattle.message.specs.declared.directions.Direction.TheVariants as direction
 use Rattle.bank_history.specs.History.{Exchange, Stands, BankCall, past_of}
 use Rattle.bank_history.specs.Opened.{is_upload_opened, is_own_opened}
 use Rattle.bank_history.specs.FalseEconomies.{Next, WellMadeOpening, RefusedWith}

@@ -7,8 +7,8 @@ use Rattle.frame_table.specs.Names.{subscriber, same_bits}
 use Rattle.bank_state.specs.Clock.{is_idle, advanced}
 use Rattle.bank_state.specs.Rows.{keep}
 use Rattle.bank_state.specs.State.{BankState}
-use Rattle.bank_verdicts.specs.declared.verdict.Direction.{Direction}
-use Rattle.bank_verdicts.specs.declared.verdict.Direction.TheVariants as direction
+use Rattle.message.specs.declared.directions.Direction.{Direction}
+use Rattle.message.specs.declared.directions.Direction.TheVariants as direction
 use Rattle.bank_verdicts.specs.declared.verdict.UploadAction.{UploadAction}
 use Rattle.bank_verdicts.specs.declared.verdict.UploadAction.TheVariants as up
 use Rattle.bank_verdicts.specs.declared.verdict.DownloadAction.{DownloadAction}

@@ -1,7 +1,6 @@
 -- What one call after another leaves: mailboxes, transactions that are gone, transactions that stay open.
 use Rattle.std.specs.Prelude.{ℕ, ◌+◌, ◌-◌, ◌<◌, ◌≤◌, true, false, List, [], ◌∷◌, ◌++◌, ◌≡◌, length, replicate}
 use Rattle.frame_table.specs.declared.fields.Bits128.{Bits128}
-use Rattle.octets.specs.Bytes.{number}
 use Rattle.frame_table.specs.Names
 use Rattle.frame_reader.specs.Reader.{read_request}
 use Rattle.frame_row.specs.Row.{data_of}

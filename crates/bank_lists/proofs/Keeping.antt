@@ -7,7 +7,7 @@ use native.Mathlib.Nat.{mul-zero, mul-suc, mul-le-mul_left}
 use native.Mathlib.Numerals.{add-one}
 use native.Mathlib.Omega.{arith}
 use lib.ListN.{length, take, drop, replicate, length-append, length-drop, length-replicate, take-append-drop}
-use lib.Seq.{drop-drop, take_at, length-take-le}
+use lib.Seq.{drop-drop, take_at, length-take-le, paste}
 use Rattle.octets.specs.Bytes.{overwrite}
 use Rattle.octets.proofs.Numbers.{length-overwrite}
 use Rattle.bank_state.specs.Rows.{keep}
@@ -23,6 +23,11 @@ overwrite-own d at w h =
     let m = length-drop at d in
     let n : length (take w (drop at d)) ≡ w = length-take-le w (drop at d) (omega arith) in
     rw (n, ← drop-drop w at d, take-append-drop w (drop at d), take-append-drop at d)
+
+-- a copy within an area
+pub overwrite-part : (d : List ℕ) (at : ℕ) (s : List ℕ) (n : ℕ) → n ≤ length s → paste d at s n ≡ overwrite d at (take n s)
+unfolding overwrite
+overwrite-part d at s n h = rw (length-take-le n s h) (append_assoc (take at d) (take n s) (drop (at + n) d))
 
 module _ {A : Type 0} (w : ℕ) (f : List ℕ → A) (g : A → List ℕ) (p : A → Bool) (wide : (x : A) → length (g x) ≡ w)
     (row : (t : List ℕ) → w ≤ length t → g (f t) ≡ take w t) where

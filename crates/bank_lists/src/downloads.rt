@@ -93,14 +93,13 @@ fn is_download_at(rows: &[u64], i: usize, subscriber: u64, high: u64, low: u64) 
     requires { Laid rows.now × (i < download_count_of rows.now) }
     ensures { result ≡ is_download subscriber (bits high low) (download_at (bank_of rows.now) i) }
 {
-    let at = DOWNLOADS_AT + DOWNLOAD_WIDTH * i;
-    if rows[at + DOWNLOAD_LOW] != low {
-        return false;
-    }
-    if rows[at + DOWNLOAD_HIGH] != high {
-        return false;
-    }
-    rows[at + DOWNLOAD_SUBSCRIBER] == subscriber
+    is_row_of(
+        rows,
+        DOWNLOADS_AT + DOWNLOAD_WIDTH * i,
+        subscriber,
+        high,
+        low,
+    )
 }
 
 // Where an open download stands; the most downloads where there is none.
@@ -109,14 +108,9 @@ pub fn find_download(rows: &[u64], subscriber: u64, high: u64, low: u64) -> usiz
     ensures { result ≡ find_download subscriber (bits high low) (bank_of rows.now) }
 {
     let n = rows[DOWNLOAD_COUNT_AT] as usize;
-    let mut i = 0;
-    while i < n {
-        if is_download_at(rows, i, subscriber, high, low) {
-            return i;
-        }
-        i += 1;
-    }
-    PLACE_COUNT
+    (0..n)
+        .find(|i| is_download_at(rows, *i, subscriber, high, low))
+        .unwrap_or(PLACE_COUNT)
 }
 
 // Whether download i is this subscriber's.
@@ -135,17 +129,10 @@ pub(crate) fn open_downloads_of(rows: &[u64], subscriber: u64) -> usize
     ensures { result ≡ count_of (λ (e : Download). e.used && eqb e.subscriber subscriber)
         (bank_of rows.now).downloads }
 {
-    let count = rows[DOWNLOAD_COUNT_AT] as usize;
-    let mut n: usize = 0;
-    let mut i = 0;
-    while i < count {
-        let row = i;
-        i += 1;
-        if is_download_of(rows, row, subscriber) {
-            n += 1;
-        }
-    }
-    n
+    let n = rows[DOWNLOAD_COUNT_AT] as usize;
+    (0..n)
+        .filter(|i| is_download_of(rows, *i, subscriber))
+        .count()
 }
 
 // Whether the row at a place has this subscriber and this transaction ID.
@@ -153,13 +140,9 @@ fn is_row_of(area: &[u64], at: usize, subscriber: u64, high: u64, low: u64) -> b
     requires { at + download_width ≤ length area.now }
     ensures { result ≡ is_download subscriber (bits high low) (download_of (drop at area.now)) }
 {
-    if area[at + DOWNLOAD_LOW] != low {
-        return false;
-    }
-    if area[at + DOWNLOAD_HIGH] != high {
-        return false;
-    }
-    area[at + DOWNLOAD_SUBSCRIBER] == subscriber
+    area[at + DOWNLOAD_LOW] == low
+        && area[at + DOWNLOAD_HIGH] == high
+        && area[at + DOWNLOAD_SUBSCRIBER] == subscriber
 }
 
 // Whether the download of the row at a place ends.
@@ -183,10 +166,7 @@ fn keep_downloads(area: &mut [u64], n: usize, which: Ended) -> usize
         area.old area.new }
 {
     let mut kept = 0;
-    let mut i = 0;
-    while i < n {
-        let row = i;
-        i += 1;
+    for row in 0..n {
         if !ends_at(area, DOWNLOAD_WIDTH * row, which) {
             move_row(
                 area,

@@ -1,5 +1,5 @@
 // The remembered nonces: rows in the order of their openings, as many as their count says.
-ghost use Rattle.std.specs.Prelude.{◌≡◌, true, ◌&&◌, ◌*◌, ◌≤◌, ◌<◌, length, set};
+ghost use Rattle.std.specs.Prelude.{◌≡◌, true, ◌&&◌, ◌+◌, ◌*◌, ◌≤◌, ◌<◌, length, set, drop};
 ghost use Rattle.frame_table.specs.Names.{same_bits};
 ghost use Rattle.bank_state.specs.Limits.{nonce_count};
 ghost use Rattle.bank_state.specs.Clock.{forget};
@@ -33,10 +33,7 @@ fn is_nonce_at(rows: &[u64], i: usize, high: u64, low: u64) -> bool
         && same_bits (nonce_at (bank_of rows.now) i).value (bits high low)) }
 {
     let at = NONCES_AT + NONCE_WIDTH * i;
-    if rows[at + NONCE_LOW] != low {
-        return false;
-    }
-    rows[at + NONCE_HIGH] == high
+    rows[at + NONCE_LOW] == low && rows[at + NONCE_HIGH] == high
 }
 
 // Whether a nonce is remembered.
@@ -45,14 +42,7 @@ pub fn is_remembered(rows: &[u64], high: u64, low: u64) -> bool
     ensures { result ≡ is_remembered (bits high low) (bank_of rows.now) }
 {
     let n = rows[NONCE_COUNT_AT] as usize;
-    let mut i = 0;
-    while i < n {
-        if is_nonce_at(rows, i, high, low) {
-            return true;
-        }
-        i += 1;
-    }
-    false
+    (0..n).any(|i| is_nonce_at(rows, i, high, low))
 }
 
 // Remembers one more nonce.
@@ -69,22 +59,23 @@ pub fn add_nonce(rows: &mut [u64], high: u64, low: u64, timestamp: u64)
     rows[NONCE_COUNT_AT] = (n + 1) as u64;
 }
 
-// Whether no timestamp of the first n rows is too far behind the clock.
+// Whether the nonce of the row at a place stays: its timestamp is not too far behind the clock.
+fn stays_at(area: &[u64], at: usize, clock: u64) -> bool
+    requires { at + nonce_width ≤ length area.now }
+    ensures { result ≡ stays_remembered clock (nonce_of (drop at area.now)) }
+{
+    !is_behind(clock, area[at + NONCE_TIMESTAMP], WINDOW)
+}
+
+// Whether the nonces of the first n rows all stay.
 fn all_stay(area: &[u64], n: usize, clock: u64) -> bool
     requires { (n ≤ nonce_count) × (length area.now ≡ nonces_size) }
     ensures { result ≡ all_below (row_stays clock area.now) n }
 {
-    let mut i = 0;
-    while i < n {
-        if is_behind(clock, area[NONCE_WIDTH * i + NONCE_TIMESTAMP], WINDOW) {
-            return false;
-        }
-        i += 1;
-    }
-    true
+    (0..n).all(|i| stays_at(area, NONCE_WIDTH * i, clock))
 }
 
-// Keeps those of the first n rows whose timestamp is not too far behind the clock, and wipes what is freed.
+// Keeps those of the first n rows that stay, in their order, and wipes what is freed.
 fn keep_nonces(area: &mut [u64], n: usize, clock: u64) -> usize
     requires { (n ≤ nonce_count) × (length area.old ≡ nonces_size) }
     ensures { KeptRows nonce_width nonce_of nonce_row (stays_remembered clock) n result
@@ -94,11 +85,8 @@ fn keep_nonces(area: &mut [u64], n: usize, clock: u64) -> usize
         return n;
     }
     let mut kept = 0;
-    let mut i = 0;
-    while i < n {
-        let row = i;
-        i += 1;
-        if !is_behind(clock, area[NONCE_WIDTH * row + NONCE_TIMESTAMP], WINDOW) {
+    for row in 0..n {
+        if stays_at(area, NONCE_WIDTH * row, clock) {
             move_row(area, NONCE_WIDTH, NONCE_WIDTH * row, NONCE_WIDTH * kept);
             kept += 1;
         }

@@ -17,7 +17,7 @@ use Rattle.bank_state.specs.Limits.{series_limit}
 use Rattle.bank_state.specs.Numbers.{next_number}
 use Rattle.bank_state.proofs.Numbers.{next-from}
 use Rattle.bank_rows.specs.State.{Held}
-use Rattle.bank_verdicts.specs.declared.verdict.Direction.TheVariants as direction
+use Rattle.message.specs.declared.directions.Direction.TheVariants as direction
 use Rattle.bank_verdicts.specs.Refusals.{numbering_ended, series_ended}
 use Rattle.bank_verdicts.specs.Judgement.{number_by, opening_number}
 use Rattle.bank_openings.specs.Openings.{counted, moved_by, fits_series, counted_upload, open_upload, open_download}

@@ -13,8 +13,8 @@ use Rattle.message.specs.Editions.{edition_of}
 use Rattle.bank_state.specs.Limits.{place_count, nonce_count, max_openings, series_limit}
 use Rattle.bank_state.specs.Search.{free_place, free_download, free_nonce}
 use Rattle.bank_state.specs.State.{with_openings, with_series, with_place, with_download, with_nonces}
-use Rattle.bank_verdicts.specs.declared.verdict.Direction.{Direction}
-use Rattle.bank_verdicts.specs.declared.verdict.Direction.TheVariants as direction
+use Rattle.message.specs.declared.directions.Direction.{Direction}
+use Rattle.message.specs.declared.directions.Direction.TheVariants as direction
 use Rattle.bank_verdicts.specs.Refusals.{series_ended}
 
 -- the record that an opening of this direction takes

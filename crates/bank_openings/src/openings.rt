@@ -35,12 +35,9 @@ fn move_series(rows: &mut [u64], number: u64, q: Fields)
         ≡ stored (with_series (moved number q (bank_of rows.old).series) (bank_of rows.old))
         rows.old }
 {
-    let edition = edition_of(q);
-    match edition {
+    match edition_of(q) {
         Edition::V24 => {}
-        Edition::V25 => {
-            set_series_of(rows, q.subscriber(), number + 1);
-        }
+        Edition::V25 => set_series_of(rows, q.subscriber(), number + 1),
     }
 }
 

@@ -14,14 +14,12 @@ pub fn next_number(rows: &[u64], subscriber: u64) -> u64
     requires { Laid rows.now × (series_of subscriber (bank_of rows.now).series < series_limit) }
     ensures { result ≡ next_number subscriber (bank_of rows.now) }
 {
-    let mut n = series_of(rows, subscriber);
-    let mut left = PLACE_COUNT;
-    while 0 < left {
+    let first = series_of(rows, subscriber);
+    let end = first + PLACE_COUNT as u64;
+    for n in first..end {
         if !is_number_held(rows, subscriber, n) {
             return n;
         }
-        n += 1;
-        left -= 1;
     }
-    n
+    end
 }

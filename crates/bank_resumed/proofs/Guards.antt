@@ -1,5 +1,8 @@
 -- What the premise leaves free: a premise that grew stronger is refused here. A host that keeps one session meets it,
 -- whatever comes, since each call leaves a session of card 2's list, or leaves it as it was. Assumes nothing.
+use Rattle.bank.specs.declared.mailbox.FileRefusal.{FileRefusal}
+use Rattle.number_table.specs.declared.table.WrongLength.{WrongLength}
+use Rattle.std.specs.Prelude.{Err, Ok, Result}
 use Prim.Native.Nat.{ℕ, ◌≤◌}
 use mathlib.Core.Bool.{Bool, true, cond}
 use mathlib.Core.List.Memᴰ.{head as here}
@@ -16,10 +19,7 @@ use Rattle.bank_rows.specs.State.{bank_of}
 use Rattle.bank_rows.proofs.State.{fresh-rows}
 use Rattle.bank_sound.specs.Sound.{is_sound}
 use Rattle.bank_steps.specs.Lent.{state_of}
-use Rattle.bank.specs.declared.call.FrameAnswer.{FrameAnswer}
-use Rattle.bank.specs.declared.call.FrameAnswer.TheVariants.{Reply, WrongLength}
-use Rattle.bank.specs.declared.mailbox.FileAnswer.{FileAnswer}
-use Rattle.bank.specs.declared.mailbox.FileAnswer.TheVariants as answers
+use Rattle.bank.specs.declared.mailbox.FileRefusal.TheVariants as answers
 use Rattle.bank.specs.Call.{FrameInput, frame_number, frame_call}
 use Rattle.bank.specs.Mailbox.{file_refusals, carry_out_file, file_call}
 use Rattle.bank_session.specs.Session.{
@@ -39,7 +39,7 @@ use Rattle.bank_admitted.specs.Session.{Brought}
 use Rattle.bank_history.specs.History.{start}
 use Rattle.bank_history.specs.Journal.{journal_of}
 use Rattle.bank_history.proofs.OnSessions.{on-sessions}
-use Rattle.image_calls.specs.declared.calls.TakenUp.TheVariants as up_answer
+use Rattle.image.specs.declared.codec.ImageRefusal.TheVariants as up_answer
 use Rattle.image_calls.specs.Calls.{image_length, lengths_right, PutAway, TakeUp, take_up_of, take_up}
 use Rattle.image_calls.proofs.Theorems.{session-written}
 use Rattle.image_calls.proofs.Again.{put-taken}
@@ -104,19 +104,19 @@ unfolding left_by fresh_session start journal_of
 fresh-stands = (ap (λ (b : Bank). bank_state b (replicate store_bytes 0) (replicate store_bytes 0)) fresh-rows, refl, refl)
 
 -- a frame call given a number is given number 1
-number-one : (r : FrameAnswer) → (frame_number r ≡ 0 → ⊥) → frame_number r ≡ 1
-number-one (Reply n) z = absurd (z refl)
-number-one WrongLength z = refl
+number-one : (r : Result ℕ WrongLength) → (frame_number r ≡ 0 → ⊥) → frame_number r ≡ 1
+number-one (Ok n) z = absurd (z refl)
+number-one (Err e) z = refl
 
 -- a file call given a number leaves the bank and the mailboxes
-file-refused : (r : FileAnswer) (b : Bank) (mailbox : ℕ) (file mailboxes orders : List ℕ) →
+file-refused : (r : Result (Unit {0}) FileRefusal) (b : Bank) (mailbox : ℕ) (file mailboxes orders : List ℕ) →
     let k = carry_out_file r b mailbox file mailboxes in
     (k.number ≡ 0 → ⊥) → bank_state k.bank orders k.mailboxes ≡ bank_state b orders mailboxes
-file-refused answers.Done b mailbox file mailboxes orders n = absurd (n refl)
-file-refused answers.WrongLength b mailbox file mailboxes orders n = refl
-file-refused answers.NoMailbox b mailbox file mailboxes orders n = refl
-file-refused answers.WrongFile b mailbox file mailboxes orders n = refl
-file-refused answers.MailboxFull b mailbox file mailboxes orders n = refl
+file-refused (Ok u) b mailbox file mailboxes orders n = absurd (n refl)
+file-refused (Err answers.WrongLength) b mailbox file mailboxes orders n = refl
+file-refused (Err answers.NoMailbox) b mailbox file mailboxes orders n = refl
+file-refused (Err answers.WrongFile) b mailbox file mailboxes orders n = refl
+file-refused (Err answers.MailboxFull) b mailbox file mailboxes orders n = refl
 
 module _ {m : LentSession} {ks : List HostCall} (c : Covered m ks) where
   abbrev s : Left
@@ -181,7 +181,7 @@ module _ {m : LentSession} {ks : List HostCall} (c : Covered m ks) where
         let is = file-number m.rows m.mailboxes mailbox file long sound
         ∙ sym (file-numbered b mailbox file m.mailboxes) in
         file-bank-left m.rows m.mailboxes mailbox file long sound m.orders
-        ∙ file-refused (decide (file_refusals b mailbox file m.mailboxes) answers.Done) b mailbox file m.mailboxes
+        ∙ file-refused (decide (file_refusals b mailbox file m.mailboxes) (Ok tt)) b mailbox file m.mailboxes
         m.orders (λ z. n (is ∙ z))
 
     file-standing : Dec (call_number put ≡ 0) → Standing (after_file m mailbox file) (exec put s)
@@ -215,7 +215,7 @@ module _ {m : LentSession} {ks : List HostCall} (c : Covered m ks) where
     pub away-unnumbered : call_number away ≡ 0
     away-unnumbered = ap (λ (k : PutAway). k.number) (session-written m c.admitted.0 c.admitted.1 buffer room)
 
-    pub up-taken : take_up n (image_put m buffer) ≡ take_up_of up_answer.Done m
+    pub up-taken : take_up n (image_put m buffer) ≡ take_up_of (Ok tt) m
     up-taken = put-taken m buffer away-unnumbered n long
 
     up-unnumbered : call_number up ≡ 0

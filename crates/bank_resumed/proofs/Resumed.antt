@@ -1,5 +1,8 @@
 -- A session taken up is the one that stands, since each image is of it until the bank moves; a frame or file call given
 -- no number is the bank's call on it. So the bank's calls alone leave what the list leaves. Assumes nothing.
+use Rattle.bank.specs.declared.mailbox.FileRefusal.{FileRefusal}
+use Rattle.number_table.specs.declared.table.WrongLength.{WrongLength}
+use Rattle.std.specs.Prelude.{Ok, Result}
 use Prim.Native.Nat.{ℕ}
 use mathlib.Core.Bool.{Bool, true, false, cond}
 use mathlib.Core.List.Memᴰ.{head as here}
@@ -18,10 +21,6 @@ use Rattle.journal.specs.Row.{Journal}
 use Rattle.bank_state.specs.State.{BankState, bank_state}
 use Rattle.bank_rows.specs.State.{bank_of}
 use Rattle.bank_steps.specs.Lent.{state_of}
-use Rattle.bank.specs.declared.call.FrameAnswer.{FrameAnswer}
-use Rattle.bank.specs.declared.call.FrameAnswer.TheVariants.{Reply}
-use Rattle.bank.specs.declared.mailbox.FileAnswer.{FileAnswer}
-use Rattle.bank.specs.declared.mailbox.FileAnswer.TheVariants.{Done}
 use Rattle.bank.specs.Call.{FrameInput, frame_call}
 use Rattle.bank.specs.Journal.{journal_after, journal_by}
 use Rattle.bank.specs.Mailbox.{file_call}
@@ -81,25 +80,25 @@ use Rattle.bank_resumed.specs.Resumed.{NextFrame, Resumed}
 
 -- ---- the bank's own steps
 
-module _ (p : Past) (a : FrameInput) {n : ℕ} (e : (frame_call p.bank_state a).answer ≡ Reply n) where
+module _ (p : Past) (a : FrameInput) {n : ℕ} (e : (frame_call p.bank_state a).answer ≡ Ok n) where
   frame-after : after (Frame a) p
       ≡ past_with (frame_call p.bank_state a).bank_state (call_exchange p.bank_state a ∷ p.history)
   unfolding after
   frame-after =
-      ap (λ (r : FrameAnswer). entered r (frame_call p.bank_state a).bank_state (call_exchange p.bank_state a) p) e
+      ap (λ (r : Result ℕ WrongLength). entered r (frame_call p.bank_state a).bank_state (call_exchange p.bank_state a) p) e
 
   frame-over : (j : Journal) → journal_over (Frame a) p j ≡ journal_after p.bank_state a j
   unfolding journal_over
-  frame-over j = ap (λ (r : FrameAnswer). journal_by r (journal_after p.bank_state a j) j) e
+  frame-over j = ap (λ (r : Result ℕ WrongLength). journal_by r (journal_after p.bank_state a j) j) e
 
 module _ (p : Past) (mailbox : ℕ) (file : List ℕ) where
-  file-after : let c = file_call p.bank_state.bank mailbox file p.bank_state.mailboxes in c.answer ≡ Done →
+  file-after : let c = file_call p.bank_state.bank mailbox file p.bank_state.mailboxes in c.answer ≡ Ok tt →
       after (File mailbox file) p
       ≡ past_with (bank_state c.bank p.bank_state.orders c.mailboxes) p.history
   unfolding after
   file-after e =
       let c = file_call p.bank_state.bank mailbox file p.bank_state.mailboxes in
-      ap (λ (r : FileAnswer). placed r c.bank c.mailboxes p) e
+      ap (λ (r : Result (Unit {0}) FileRefusal). placed r c.bank c.mailboxes p) e
 
 -- ---- one call
 
@@ -132,7 +131,7 @@ module _ {s : Left} {calls : List BankCall} (k : Same s calls) where
         journal = frame-journal-left m a z ∙ (sym (frame-over (so_far w) a e (journal_in m))
             ∙ (ap (λ (p : Past). journal_over (Frame a) p (journal_in m)) (past_is g.0)
             ∙ ap (journal_over (Frame a) (past_of calls)) (g.1 ∙ k.journal)));
-        counts = frame-counts-left m a z ∙ (sym (ap (λ (r : FrameAnswer). counts_by r (counts_over w a c) c) e)
+        counts = frame-counts-left m a z ∙ (sym (ap (λ (r : Result ℕ WrongLength). counts_by r (counts_over w a c) c) e)
             ∙ (ap (λ (p : Past). carried_by (Frame a) p c) (past_is g.0)
             ∙ ap (carried_by (Frame a) (past_of calls)) (g.2 ∙ k.counts)));
         written = λ image i. absurd (in-none i);

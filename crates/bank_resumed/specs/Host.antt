@@ -1,8 +1,8 @@
 -- A host that keeps one session in memory: it lends it to each call, keeps what the call left, and puts it away and
 -- takes it up between calls as it likes. Its lists of calls are allowed.
+use Rattle.std.specs.Prelude.{Ok}
 use Rattle.std.specs.Prelude.{ℕ, ◌≤◌, true, List, [], ◌∷◌, ◌≡◌, length}
 use Rattle.bank.specs.Call.{FrameInput}
-use Rattle.bank_session.specs.declared.report.CountAnswer.TheVariants.{Counted}
 use Rattle.bank_session.specs.Session.{LentSession, session_frame_call, count_call}
 use Rattle.bank_admitted.specs.Session.{Brought}
 use Rattle.image_calls.specs.Calls.{image_length, lengths_right, take_up}
@@ -43,4 +43,4 @@ pub record Covered (m : LentSession) (ks : List HostCall) : Type 0 where
 -- card 12, "The unit reports seven counts in this order, each equal to the number so defined": asked of the session that
 -- it holds, whatever was put away and taken up before
 abbrev pub Reported : LentSession → List HostCall → Type 0
-Reported m ks = count_call m.rows ≡ Counted (counts (history_left ks))
+Reported m ks = count_call m.rows ≡ Ok (counts (history_left ks))

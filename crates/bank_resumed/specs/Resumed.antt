@@ -19,7 +19,7 @@ use Rattle.bank_state.specs.Clock.{advanced}
 use Rattle.bank_state.specs.Limits.{window, idle_limit, series_limit}
 use Rattle.bank_state.specs.Rows.{count_of}
 use Rattle.bank_state.specs.State.{BankState, series_of}
-use Rattle.bank_verdicts.specs.declared.verdict.Direction.{Direction}
+use Rattle.message.specs.declared.directions.Direction.{Direction}
 use Rattle.bank_steps.specs.Lent.{state_of}
 use Rattle.bank.specs.Call.{FrameInput}
 use Rattle.bank_session.specs.Session.{LentSession, bank_in}

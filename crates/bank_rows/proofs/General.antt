@@ -4,27 +4,11 @@ use mathlib.Core.Bool.{Bool, true, false, cond}
 use mathlib.Core.List.{List, [], ◌∷◌, ◌++◌, append_assoc, append-nil}
 use mathlib.Core.Path.{◌≡◌, refl, sym, ap, ◌∙◌}
 use native.Mathlib.Nat.{zero-add, mul-zero, mul-suc, add_comm}
-use native.Mathlib.Numerals.{add-one}
 use native.Mathlib.Omega.{arith}
 use lib.Dec.{ltb}
 use borrow.Author.Tests.{ltb-true, ltb-false}
-use lib.ListN.{
-  length,
-  get_or,
-  take,
-  drop,
-  set,
-  replicate,
-  length-append,
-  length-take,
-  length-drop,
-  length-replicate,
-  replicate-append-replicate,
-  get_or-replicate,
-  take-append-drop,
-  get_or-append,
-}
-use lib.Seq.{get_or-drop, drop-drop, drop-cons, drop_at, take-suc, set_at, length-take-le, take-add, take-append-le, drop-append-le, take-append-add, drop-append-add, get_or-append-add, ext_get_or}
+use lib.ListN.{length, get_or, take, drop, set, replicate, length-append, length-take, length-drop, length-replicate, get_or-replicate, take-append-drop, get_or-append}
+use lib.Seq.{get_or-drop, drop-drop, drop-cons, drop_at, take-add, take-append-le, drop-append-le, take-append-add, drop-append-add, get_or-append-add, ext_get_or}
 use Rattle.octets.specs.Bytes.{overwrite}
 use Rattle.bank_state.specs.Rows.{keep}
 use Rattle.bank_rows.specs.Rows.{rows_of, numbers_of, written}
@@ -55,62 +39,6 @@ overwrite-within a b k xs h =
 pub overwrite-front : (a b xs : List ℕ) → length xs ≡ length a → overwrite (a ++ b) 0 xs ≡ xs ++ b
 unfolding overwrite
 overwrite-front a b xs e = rw (zero-add (length xs), e, drop_at a b (length a) refl)
-
--- one number more
-pub overwrite-next : (d : List ℕ) (at : ℕ) (z : List ℕ) (x : ℕ) → at + length z < length d
-    → set (overwrite d at z) (at + length z) x ≡ overwrite d at (z ++ (x ∷ []))
-unfolding overwrite
-overwrite-next d at z x h =
-    let i : ℕ = at + length z in
-    let f : List ℕ = take at d ++ z in
-    let r : List ℕ = drop (suc i) d in
-    let n : length f ≡ i = simp (length-append, length-take) (omega arith) in
-    let e : at + length (z ++ (x ∷ [])) ≡ suc i = simp length-append (omega arith) in
-    ap (λ (t : List ℕ). set (take at d ++ (z ++ t)) i x) (drop-cons d i 0 h)
-    ∙ ap (λ (t : List ℕ). set t i x) (sym (append_assoc (take at d) z (get_or d i 0 ∷ r)))
-    ∙ set_at f (get_or d i 0) r x i n ∙ append_assoc (take at d) z (x ∷ r)
-    ∙ ap (λ (t : List ℕ). take at d ++ t) (sym (append_assoc z (x ∷ []) r))
-    ∙ ap (λ (k : ℕ). take at d ++ ((z ++ (x ∷ [])) ++ drop k d)) (sym e)
-
--- a wipe's next number
-pub wiped-next : (d : List ℕ) (from i : ℕ) → from ≤ i → i < length d
-    → set (overwrite d from (replicate (i - from) 0)) i 0 ≡ overwrite d from (replicate (i + 1 - from) 0)
-wiped-next d from i h k =
-    let z : List ℕ = replicate (i - from) 0 in
-    let n : length z ≡ i - from = length-replicate (i - from) 0 in
-    let e : from + length z ≡ i = omega arith in
-    let m : i - from + 1 ≡ i + 1 - from = omega arith in
-    ap (λ (j : ℕ). set (overwrite d from z) j 0) (sym e) ∙ overwrite-next d from z 0 (omega arith)
-    ∙ ap (overwrite d from) (replicate-append-replicate {A = ℕ} (i - from) 1 0 ∙ ap (λ (j : ℕ). replicate j 0) m)
-
--- what stands after the place written is unchanged
-overwrite-beyond : (d : List ℕ) (at : ℕ) (z : List ℕ) (j : ℕ) → at ≤ length d → at + length z ≤ j → get_or (overwrite d at z) j 0 ≡ get_or d j 0
-unfolding overwrite
-overwrite-beyond d at z j h k =
-    let f : List ℕ = take at d ++ z in
-    let n : length f ≡ at + length z = simp (length-append, length-take) (omega arith) in
-    let e : j ≡ length f + (j - (at + length z)) = omega arith in
-    let o : at + length z + (j - (at + length z)) ≡ j = omega arith in
-    ap (λ (t : List ℕ). get_or t j 0) (sym (append_assoc (take at d) z (drop (at + length z) d)))
-    ∙ ap (λ (i : ℕ). get_or (f ++ drop (at + length z) d) i 0) e
-    ∙ get_or-append-add f (drop (at + length z) d) (j - (at + length z)) 0
-    ∙ get_or-drop (at + length z) d (j - (at + length z)) 0 ∙ ap (λ (i : ℕ). get_or d i 0) o
-
--- a move's next number
-pub moved-next : (d : List ℕ) (w from to i : ℕ) → i < w → to + w ≤ from → from + w ≤ length d
-    → set (overwrite d to (take i (drop from d))) (to + i) (get_or (overwrite d to (take i (drop from d))) (from + i) 0)
-    ≡ overwrite d to (take (i + 1) (drop from d))
-moved-next d w from to i h k l =
-    let r : List ℕ = drop from d in
-    let m : length r ≡ length d - from = length-drop from d in
-    let z : List ℕ = take i r in
-    let n : length z ≡ i = length-take-le i r (omega arith) in
-    let e : to + length z ≡ to + i = omega arith in
-    let v : get_or (overwrite d to z) (from + i) 0 ≡ get_or r i 0 =
-    overwrite-beyond d to z (from + i) (omega arith) (omega arith) ∙ sym (get_or-drop from d i 0) in
-    ap (λ (x : ℕ). set (overwrite d to z) (to + i) x) v ∙ ap (λ (j : ℕ). set (overwrite d to z) j (get_or r i 0)) (sym e)
-    ∙ overwrite-next d to z (get_or r i 0) (omega arith)
-    ∙ ap (overwrite d to) (sym (ap (λ (j : ℕ). take j r) (add-one i) ∙ take-suc r i 0 (omega arith)))
 
 -- ---- the numbers of a row, listed
 

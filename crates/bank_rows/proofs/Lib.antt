@@ -2,6 +2,7 @@
 pub mod Tests
 pub mod General
 pub mod InUse
+pub mod Ranges
 pub mod Records
 pub mod State
 pub mod Writing

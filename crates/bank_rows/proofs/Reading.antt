@@ -9,7 +9,8 @@ use lib.Dec.{eqb, ltb}
 use borrow.Author.Tests.{lt-ltb, le-ltb, ltb-true, ltb-false}
 use lib.ListN.{length, get_or, take, drop}
 use lib.Seq.{get_or-drop}
-use Rattle.octets.proofs.Tests.{never, and-true-right}
+use Rattle.std.specs.Bool.{MatchBool}
+use Rattle.octets.proofs.Tests.{never}
 use Rattle.frame_table.specs.Names.{same_bits}
 use Rattle.frame_table.specs.declared.fields.Bits128.{Bits128}
 use Rattle.bank_state.specs.declared.state.Place.{Place}
@@ -17,7 +18,7 @@ use Rattle.bank_state.specs.declared.state.Download.{Download}
 use Rattle.bank_state.specs.State.{Nonce}
 use Rattle.bank_state.specs.Limits.{place_count, nonce_count}
 use Rattle.bank_state.specs.Rows.{first_of, count_of}
-use Rattle.bank_state.specs.Search.{is_open, is_free, is_upload, is_download, free_download, free_nonce, is_remembered}
+use Rattle.bank_state.specs.Search.{is_open, is_free, is_upload, free_download, free_nonce, is_remembered}
 use Rattle.bank_state.specs.State.{no_place, no_download, no_nonce, place_at, download_at}
 use Rattle.bank_state.proofs.Loops.{Searched, Counted}
 use Rattle.bank_state.proofs.Rows.{first_passes}
@@ -66,10 +67,10 @@ use Rattle.bank_rows.specs.State.{
   Laid,
 }
 use Rattle.bank_rows.proofs.General.{rows_at, length-rows}
+use Rattle.bank_rows.proofs.Ranges.{first-at-most}
 use Rattle.bank_rows.proofs.InUse.{in-use-at, free-at, none-in-use, all_in_use, first-after, count-in-use}
 use Rattle.bank_rows.proofs.Records.{open_is, free-is}
 use Rattle.bank_rows.proofs.State.{part_at, held_rows}
-use Rattle.bank_rows.proofs.Tests.{and_no, no-and}
 
 -- ---- a column of a row
 
@@ -145,37 +146,6 @@ module _ (s : List ℕ) where
     unfolding is_upload
     upload-read subscriber high low = ap (is_upload subscriber (bits high low)) place_read ∙ rw (open_is (get_or s (at + place_use) 0))
 
-    module _ (subscriber high low : ℕ) where
-      abbrev said : Bool
-      said = is_upload subscriber (bits high low) (place_at (bank_of s) i)
-
-      abbrev used : Bool
-      used = eqb (get_or s (at + place_use) 0) 1
-
-      abbrev own : Bool
-      own = eqb (get_or s (at + place_subscriber) 0) subscriber
-
-      abbrev first : Bool
-      first = eqb (get_or s (at + place_high) 0) high
-
-      abbrev second : Bool
-      second = eqb (get_or s (at + place_low) 0) low
-
-      -- each of the numbers alone says no
-      pub upload-low : second ≡ false → false ≡ said
-      upload-low e = sym (upload-read subscriber high low ∙ and_no (used && own) (and_no first e))
-
-      pub upload-high : first ≡ false → false ≡ said
-      upload-high e = sym (upload-read subscriber high low ∙ and_no (used && own) (no-and second e))
-
-      pub upload-subscriber : own ≡ false → false ≡ said
-      upload-subscriber e = sym (upload-read subscriber high low ∙ no-and (first && second) (and_no used e))
-
-      -- and the use decides where the others agree
-      pub upload-use : second ≡ true → first ≡ true → own ≡ true → used ≡ said
-      upload-use a b c =
-          sym (upload-read subscriber high low ∙ rw (a, b, c) (sym (and-true-right (used && true)) ∙ sym (and-true-right used)))
-
 -- ---- downloads and nonces in use
 
 abbrev pub download_from : List ℕ → ℕ → Download
@@ -199,25 +169,6 @@ download-from area at =
       get_or-drop at area download_attempts 0,
       get_or-drop at area download_last 0,
     )
-
--- a download goes by three numbers
-module _ (s : List ℕ) (at subscriber high low : ℕ) where
-  abbrev said_open : Bool
-  said_open = is_download subscriber (bits high low) (download_from s at)
-
-  pub download-low : eqb (get_or s (at + download_low) 0) low ≡ false → false ≡ said_open
-  unfolding is_download
-  download-low e =
-      sym (and_no (eqb (get_or s (at + download_subscriber) 0) subscriber) (and_no (eqb (get_or s (at + download_high) 0) high) e))
-
-  pub download-high : eqb (get_or s (at + download_high) 0) high ≡ false → false ≡ said_open
-  unfolding is_download
-  download-high e = sym (and_no (eqb (get_or s (at + download_subscriber) 0) subscriber) (no-and (eqb (get_or s (at + download_low) 0) low) e))
-
-  pub download-subscriber : eqb (get_or s (at + download_low) 0) low ≡ true → eqb (get_or s (at + download_high) 0) high ≡ true
-      → eqb (get_or s (at + download_subscriber) 0) subscriber ≡ said_open
-  unfolding is_download
-  download-subscriber a b = rw (a, b) (and-true-right (eqb (get_or s (at + download_subscriber) 0) subscriber))
 
 abbrev pub nonce_from : List ℕ → ℕ → Nonce
 nonce_from s at = nonce_record (bits (get_or s (at + nonce_high) 0) (get_or s (at + nonce_low) 0)) (get_or s (at + nonce_timestamp) 0)
@@ -297,25 +248,24 @@ module _ (s : List ℕ) where
     no-nonce p fails d =
         none-in-use nonce_width nonce_of no_nonce p nonce_count (nonce_count_of s) (nonces_part s) l.nonces fails d
 
--- a nonce goes by the two halves
-module _ (s : List ℕ) (at high low : ℕ) where
-  pub nonce-low : eqb (get_or s (at + nonce_low) 0) low ≡ false → false ≡ same_bits (nonce_from s at).value (bits high low)
-  nonce-low e = sym (and_no (eqb (get_or s (at + nonce_high) 0) high) e)
-
-  pub nonce-high : eqb (get_or s (at + nonce_low) 0) low ≡ true → eqb (get_or s (at + nonce_high) 0) high ≡ same_bits (nonce_from s at).value (bits high low)
-  nonce-high e = rw e (and-true-right (eqb (get_or s (at + nonce_high) 0) high))
-
 module _ (s : List ℕ) (value : Bits128) where
   abbrev pub is_nonce : Nonce → Bool
   is_nonce e = e.used && same_bits e.value value
 
-  pub remembered : (i : ℕ) → i < nonce_count → i ≡ first_of is_nonce (bank_of s).nonces → true ≡ is_remembered value (bank_of s)
-  unfolding is_remembered
-  remembered i h e = sym (lt-ltb (first_of is_nonce (bank_of s).nonces) nonce_count (omega arith))
-
-  pub not-remembered : nonce_count ≡ first_of is_nonce (bank_of s).nonces → false ≡ is_remembered value (bank_of s)
+  not-remembered : nonce_count ≡ first_of is_nonce (bank_of s).nonces → false ≡ is_remembered value (bank_of s)
   unfolding is_remembered
   not-remembered e = sym (le-ltb (first_of is_nonce (bank_of s).nonces) nonce_count (omega arith))
+
+  -- what a search among the nonces in use says
+  pub any-nonce : Laid s → (r : Bool)
+      → MatchBool r ((i : ℕ) × (i < nonce_count_of s) × (is_nonce (get_or (bank_of s).nonces i no_nonce) ≡ true)) (Searched is_nonce (bank_of s).nonces (nonce_count_of s))
+      → r ≡ is_remembered value (bank_of s)
+  unfolding is_remembered
+  any-nonce l true (i, h, e) =
+      let x : i < length (bank_of s).nonces = omega (arith, l.nonces, length-nonces-of s l) in
+      let y = first-at-most is_nonce no_nonce (bank_of s).nonces i x e in
+      sym (lt-ltb (first_of is_nonce (bank_of s).nonces) nonce_count (omega (arith, l.nonces)))
+  any-nonce l false d = not-remembered (no-nonce s l is_nonce refl d)
 
 -- a download that is found is one of those in use
 module _ (s : List ℕ) (l : Laid s) (p : Download → Bool) (fails : p no_download ≡ false) where

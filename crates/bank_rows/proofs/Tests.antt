@@ -1,8 +1,7 @@
 -- What tests tell: two in any order, and one of every number below another. Assumes nothing.
-use Prim.Native.Nat.{ℕ, zero, suc, ◌+◌, ◌<◌}
+use Prim.Native.Nat.{ℕ, zero, suc, ◌<◌}
 use mathlib.Core.Bool.{Bool, true, false, ◌&&◌}
 use mathlib.Core.Path.{◌≡◌, refl, sym, ap, ◌∙◌}
-use native.Mathlib.Numerals.{add-one}
 use native.Mathlib.Omega.{arith}
 use lib.Dec.{eqb}
 use borrow.Author.Tests.{eqb-true, eqb-false}
@@ -21,14 +20,6 @@ no-and b e = rw e
 -- ---- every number below
 
 module _ (p : ℕ → Bool) where
-  pub all_none : all_below p 0 ≡ true
-  unfolding all_below
-  all_none = refl
-
-  pub all-next : (i : ℕ) → all_below p i ≡ true → p i ≡ true → all_below p (i + 1) ≡ true
-  unfolding all_below
-  all-next i a b = rw (add-one i, a) b
-
   fails-at : (i n : ℕ) (t : Bool) → eqb i n ≡ t → (i < n → all_below p n ≡ false) → p i ≡ false → i < suc n
       → (all_below p n && p n) ≡ false
   fails-at i n true e later f h = and_no (all_below p n) (ap p (sym (eqb-true i n e)) ∙ f)

@@ -46,19 +46,24 @@ pub fn file_length(rows: &[u64], i: usize) -> u64
     rows[FILES_AT + i]
 }
 
+// Where a subscriber's number stands among the eight of a column; past them for one that there is not.
+fn index_of(subscriber: u64) -> usize
+    ensures { result ≡ subscriber - 1 }
+{
+    subscriber.saturating_sub(1) as usize
+}
+
 // The length of the file in a subscriber's mailbox, 0 where it is empty.
 pub fn file_length_of(rows: &[u64], subscriber: u64) -> u64
     requires { Laid rows.now }
     ensures { result ≡ file_length subscriber (bank_of rows.now).files }
 {
-    if subscriber == 0 {
-        return file_length(rows, 0);
-    }
-    let i = (subscriber - 1) as usize;
+    let i = index_of(subscriber);
     if i < PLACE_COUNT {
-        return file_length(rows, i);
+        file_length(rows, i)
+    } else {
+        0
     }
-    0
 }
 
 pub fn set_file_length(rows: &mut [u64], i: usize, n: u64)
@@ -83,14 +88,12 @@ pub fn series_of(rows: &[u64], subscriber: u64) -> u64
     requires { Laid rows.now }
     ensures { result ≡ series_of subscriber (bank_of rows.now).series }
 {
-    if subscriber == 0 {
-        return series_at(rows, 0);
-    }
-    let i = (subscriber - 1) as usize;
+    let i = index_of(subscriber);
     if i < PLACE_COUNT {
-        return series_at(rows, i);
+        series_at(rows, i)
+    } else {
+        0
     }
-    0
 }
 
 pub fn set_series_at(rows: &mut [u64], i: usize, n: u64)
@@ -109,11 +112,7 @@ pub fn set_series_of(rows: &mut [u64], subscriber: u64, n: u64)
         ≡ stored (with_series (set (bank_of rows.old).series (subscriber - 1) n) (bank_of rows.old))
         rows.old }
 {
-    if subscriber == 0 {
-        set_series_at(rows, 0, n);
-        return;
-    }
-    let i = (subscriber - 1) as usize;
+    let i = index_of(subscriber);
     if i < PLACE_COUNT {
         set_series_at(rows, i, n);
     }

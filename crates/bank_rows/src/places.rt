@@ -29,13 +29,11 @@ pub const BOOKED: u64 = 2;
 fn use_of(number: u64) -> Use
     ensures { result ≡ use_of number }
 {
-    if number == FREE {
-        return Use::Free;
+    match number {
+        FREE => Use::Free,
+        OPEN => Use::Open,
+        _ => Use::Booked,
     }
-    if number == OPEN {
-        return Use::Open;
-    }
-    Use::Booked
 }
 
 fn number_of_use(used: Use) -> u64
@@ -78,9 +76,8 @@ pub fn set_place(rows: &mut [u64], i: usize, p: Place)
     requires { Laid rows.old × (i < place_count) }
     ensures { rows.new ≡ stored (with_place i p (bank_of rows.old)) rows.old }
 {
-    let used = p.used;
     let numbers = [
-        number_of_use(used),
+        number_of_use(p.used),
         p.transaction.high,
         p.transaction.low,
         p.subscriber,
@@ -101,16 +98,10 @@ fn is_upload_at(rows: &[u64], i: usize, subscriber: u64, high: u64, low: u64) ->
     ensures { result ≡ is_upload subscriber (bits high low) (place_at (bank_of rows.now) i) }
 {
     let at = PLACES_AT + PLACE_WIDTH * i;
-    if rows[at + PLACE_LOW] != low {
-        return false;
-    }
-    if rows[at + PLACE_HIGH] != high {
-        return false;
-    }
-    if rows[at + PLACE_SUBSCRIBER] != subscriber {
-        return false;
-    }
-    rows[at + PLACE_USE] == OPEN
+    rows[at + PLACE_LOW] == low
+        && rows[at + PLACE_HIGH] == high
+        && rows[at + PLACE_SUBSCRIBER] == subscriber
+        && rows[at + PLACE_USE] == OPEN
 }
 
 // The place of an open upload; the number of places where there is none.
@@ -118,14 +109,9 @@ pub fn find_upload(rows: &[u64], subscriber: u64, high: u64, low: u64) -> usize
     requires { Laid rows.now }
     ensures { result ≡ find_upload subscriber (bits high low) (bank_of rows.now) }
 {
-    let mut i = 0;
-    while i < PLACE_COUNT {
-        if is_upload_at(rows, i, subscriber, high, low) {
-            return i;
-        }
-        i += 1;
-    }
-    i
+    (0..PLACE_COUNT)
+        .find(|i| is_upload_at(rows, *i, subscriber, high, low))
+        .unwrap_or(PLACE_COUNT)
 }
 
 // Whether place i is free.
@@ -142,14 +128,9 @@ pub fn free_place(rows: &[u64]) -> usize
     requires { Laid rows.now }
     ensures { result ≡ free_place (bank_of rows.now) }
 {
-    let mut i = 0;
-    while i < PLACE_COUNT {
-        if is_free_at(rows, i) {
-            return i;
-        }
-        i += 1;
-    }
-    i
+    (0..PLACE_COUNT)
+        .find(|i| is_free_at(rows, *i))
+        .unwrap_or(PLACE_COUNT)
 }
 
 // Whether place i holds this order number of this subscriber, open or booked.
@@ -158,13 +139,9 @@ fn holds_number_at(rows: &[u64], i: usize, subscriber: u64, number: u64) -> bool
     ensures { result ≡ holds_number subscriber number (place_at (bank_of rows.now) i) }
 {
     let at = PLACES_AT + PLACE_WIDTH * i;
-    if rows[at + PLACE_USE] == FREE {
-        return false;
-    }
-    if rows[at + PLACE_SUBSCRIBER] != subscriber {
-        return false;
-    }
-    rows[at + PLACE_NUMBER] == number
+    rows[at + PLACE_USE] != FREE
+        && rows[at + PLACE_SUBSCRIBER] == subscriber
+        && rows[at + PLACE_NUMBER] == number
 }
 
 // The place that holds this order number of this subscriber; the number of places where there is none.
@@ -172,14 +149,9 @@ fn find_number(rows: &[u64], subscriber: u64, number: u64) -> usize
     requires { Laid rows.now }
     ensures { result ≡ find_number subscriber number (bank_of rows.now) }
 {
-    let mut i = 0;
-    while i < PLACE_COUNT {
-        if holds_number_at(rows, i, subscriber, number) {
-            return i;
-        }
-        i += 1;
-    }
-    i
+    (0..PLACE_COUNT)
+        .find(|i| holds_number_at(rows, *i, subscriber, number))
+        .unwrap_or(PLACE_COUNT)
 }
 
 // Whether a place in use of this subscriber holds this order number.
@@ -204,16 +176,7 @@ pub fn open_uploads(rows: &[u64]) -> usize
     requires { Laid rows.now }
     ensures { result ≡ count_of (λ (p : Place). is_open p.used) (bank_of rows.now).places }
 {
-    let mut n: usize = 0;
-    let mut i = 0;
-    while i < PLACE_COUNT {
-        let row = i;
-        i += 1;
-        if is_open_at(rows, row) {
-            n += 1;
-        }
-    }
-    n
+    (0..PLACE_COUNT).filter(|i| is_open_at(rows, *i)).count()
 }
 
 // Whether place i holds an open upload of this subscriber.
@@ -223,10 +186,7 @@ fn is_open_of(rows: &[u64], i: usize, subscriber: u64) -> bool
         && eqb (place_at (bank_of rows.now) i).subscriber subscriber) }
 {
     let at = PLACES_AT + PLACE_WIDTH * i;
-    if rows[at + PLACE_USE] != OPEN {
-        return false;
-    }
-    rows[at + PLACE_SUBSCRIBER] == subscriber
+    rows[at + PLACE_USE] == OPEN && rows[at + PLACE_SUBSCRIBER] == subscriber
 }
 
 // The open uploads of a subscriber.
@@ -235,14 +195,7 @@ pub fn open_uploads_of(rows: &[u64], subscriber: u64) -> usize
     ensures { result ≡ count_of (λ (p : Place). is_open p.used && eqb p.subscriber subscriber)
         (bank_of rows.now).places }
 {
-    let mut n: usize = 0;
-    let mut i = 0;
-    while i < PLACE_COUNT {
-        let row = i;
-        i += 1;
-        if is_open_of(rows, row, subscriber) {
-            n += 1;
-        }
-    }
-    n
+    (0..PLACE_COUNT)
+        .filter(|i| is_open_of(rows, *i, subscriber))
+        .count()
 }

@@ -7,9 +7,5 @@ pub fn put(rows: &mut [u64], at: usize, numbers: &[u64])
     requires { at + length numbers.now ≤ length rows.old }
     ensures { rows.new ≡ overwrite rows.old at numbers.now }
 {
-    let mut i = 0;
-    while i < numbers.len() {
-        rows[at + i] = numbers[i];
-        i += 1;
-    }
+    rows[at..at + numbers.len()].copy_from_slice(numbers);
 }

@@ -1,4 +1,6 @@
 -- The counts after the bank's call: the code's numbers are those of the definition. Assumes nothing.
+use Rattle.number_table.specs.declared.table.WrongLength.{WrongLength}
+use Rattle.std.specs.Prelude.{Err, Ok, Result}
 use Prim.Native.Nat.{ℕ, ◌-◌, ◌≤◌, max}
 use mathlib.Core.Bool.{true}
 use mathlib.Core.List.{List}
@@ -19,8 +21,6 @@ use Rattle.bank_verdicts.specs.declared.verdict.Verdict.{Verdict}
 use Rattle.opening_counts.specs.declared.seven.Counts.{Counts}
 use Rattle.opening_counts.specs.Counts.{most_moved, counts_after}
 use Rattle.bank_steps.specs.Lent.{Lent, lent, state_of}
-use Rattle.bank.specs.declared.call.FrameAnswer.{FrameAnswer}
-use Rattle.bank.specs.declared.call.FrameAnswer.TheVariants.{Reply, WrongLength}
 use Rattle.bank.specs.declared.call.FrameOut.{FrameOut}
 use Rattle.bank.specs.Call.{FrameInput, frame_call, call_verdict, verdict_by}
 use Rattle.bank.specs.Lent.{no_reply, LentFrameCall, lent_frame_call_of, lent_frame_call}
@@ -85,11 +85,11 @@ module _ (m : Lent) (a : FrameInput) (sound : is_sound m.rows ≡ true) where
           omega arith
 
       -- the counts, by the answer
-      pub counted-by : (r : FrameAnswer) {v : Verdict} → v ≡ verdict_by r (call_verdict w a) → (c : Counts)
+      pub counted-by : (r : Result ℕ WrongLength) {v : Verdict} → v ≡ verdict_by r (call_verdict w a) → (c : Counts)
           → counts_by r (counts_after v gone others c) c ≡ counts_by r (counts_over w a c) c
       unfolding counts_over
-      counted-by (Reply n) e c = rw (e, gone-told g, others-told)
-      counted-by WrongLength e c = refl
+      counted-by (Ok n) e c = rw (e, gone-told g, others-told)
+      counted-by (Err x) e c = refl
 
 -- fewer than there were
 pub others-few : {s : List ℕ} → Laid s → {before others : ℕ} (gone left : ℕ) → before ≡ open_count (bank_of s)

@@ -1,6 +1,9 @@
 -- A host's call on rows that a call leaves is the bank's own; on other rows, or where the session is not taken, it is
 -- given number 1. So one given no number leaves what the bank's call leaves on the bank and the journal that the lent
 -- memory is. Assumes nothing.
+use Rattle.bank.specs.declared.mailbox.FileRefusal.{FileRefusal}
+use Rattle.number_table.specs.declared.table.WrongLength.{WrongLength}
+use Rattle.std.specs.Prelude.{Err, Ok, Result}
 use Prim.Native.Nat.{ℕ}
 use mathlib.Core.Bool.{Bool, true, false}
 use mathlib.Core.List.{List}
@@ -15,10 +18,7 @@ use Rattle.bank_state.specs.State.{Bank, BankState, bank_state}
 use Rattle.bank_rows.specs.State.{bank_of}
 use Rattle.bank_sound.specs.Sound.{is_sound}
 use Rattle.bank_steps.specs.Lent.{lent, state_of}
-use Rattle.bank.specs.declared.call.FrameAnswer.{FrameAnswer}
-use Rattle.bank.specs.declared.call.FrameAnswer.TheVariants.{Reply, WrongLength}
-use Rattle.bank.specs.declared.mailbox.FileAnswer.{FileAnswer}
-use Rattle.bank.specs.declared.mailbox.FileAnswer.TheVariants as answers
+use Rattle.bank.specs.declared.mailbox.FileRefusal.TheVariants as answers
 use Rattle.bank.specs.Call.{FrameInput, frame_number, FrameCall, lent_right, frame_call}
 use Rattle.bank.specs.Journal.{journal_after}
 use Rattle.bank.specs.Mailbox.{file_refusals, file_number, carry_out_file, file_call}
@@ -53,9 +53,9 @@ unfolding frame_call
 frame-numbered w a =
     by-test (λ (c : FrameCall). c.number ≡ frame_number c.answer) (lent_right w a) (λ _. refl) (λ _. refl)
 
-pub frame-replied : (r : FrameAnswer) → frame_number r ≡ 0 → (n : ℕ) × (r ≡ Reply n)
-frame-replied (Reply n) z = (n, refl)
-frame-replied WrongLength z = absurd (omega arith)
+pub frame-replied : (r : Result ℕ WrongLength) → frame_number r ≡ 0 → (n : ℕ) × (r ≡ Ok n)
+frame-replied (Ok n) z = (n, refl)
+frame-replied (Err e) z = absurd (omega arith)
 
 module _ (m : LentSession) (a : FrameInput) where
   abbrev w : BankState
@@ -97,7 +97,7 @@ module _ (m : LentSession) (a : FrameInput) where
         at false e = absurd (let n = sym (frame-unsound e) ∙ z in omega arith)
 
     -- the bank's call has a reply
-    pub frame-answered : (n : ℕ) × ((frame_call w a).answer ≡ Reply n)
+    pub frame-answered : (n : ℕ) × ((frame_call w a).answer ≡ Ok n)
     frame-answered =
         frame-replied (frame_call w a).answer
         (sym (frame-numbered w a) ∙ sym (ap number (frame-kept frame-takes frame-sound)) ∙ z)
@@ -124,21 +124,21 @@ module _ (m : LentSession) (a : FrameInput) where
 pub file-numbered : (b : Bank) (m : ℕ) (file mailboxes : List ℕ) →
     (file_call b m file mailboxes).number ≡ file_number (file_call b m file mailboxes).answer
 unfolding file_call
-file-numbered b m file mailboxes = at (decide (file_refusals b m file mailboxes) answers.Done)
+file-numbered b m file mailboxes = at (decide (file_refusals b m file mailboxes) (Ok tt))
   where
-    at : (x : FileAnswer) → let k = carry_out_file x b m file mailboxes in k.number ≡ file_number k.answer
-    at answers.Done = refl
-    at answers.WrongLength = refl
-    at answers.NoMailbox = refl
-    at answers.WrongFile = refl
-    at answers.MailboxFull = refl
+    at : (x : Result (Unit {0}) FileRefusal) → let k = carry_out_file x b m file mailboxes in k.number ≡ file_number k.answer
+    at (Ok u) = refl
+    at (Err answers.WrongLength) = refl
+    at (Err answers.NoMailbox) = refl
+    at (Err answers.WrongFile) = refl
+    at (Err answers.MailboxFull) = refl
 
-pub file-done : (r : FileAnswer) → file_number r ≡ 0 → r ≡ answers.Done
-file-done answers.Done z = refl
-file-done answers.WrongLength z = absurd (omega arith)
-file-done answers.NoMailbox z = absurd (omega arith)
-file-done answers.WrongFile z = absurd (omega arith)
-file-done answers.MailboxFull z = absurd (omega arith)
+pub file-done : (r : Result (Unit {0}) FileRefusal) → file_number r ≡ 0 → r ≡ Ok tt
+file-done (Ok u) z = refl
+file-done (Err answers.WrongLength) z = absurd (omega arith)
+file-done (Err answers.NoMailbox) z = absurd (omega arith)
+file-done (Err answers.WrongFile) z = absurd (omega arith)
+file-done (Err answers.MailboxFull) z = absurd (omega arith)
 
 module _ (rows mailboxes : List ℕ) (m : ℕ) (file : List ℕ) where
   abbrev b : Bank
@@ -151,11 +151,11 @@ module _ (rows mailboxes : List ℕ) (m : ℕ) (file : List ℕ) where
   number_in c = c.number
 
   file-refused : (length rows ≡ session_size → ⊥) →
-      session_file_call rows m file mailboxes ≡ lent_file_call_of answers.WrongLength rows mailboxes
+      session_file_call rows m file mailboxes ≡ lent_file_call_of (Err answers.WrongLength) rows mailboxes
   unfolding session_file_call
   file-refused n = rw (ne_eqb (length rows) session_size n)
 
-  unsound-refused : is_sound (bank_rows rows) ≡ false → inner ≡ lent_file_call_of answers.WrongLength (bank_rows rows) mailboxes
+  unsound-refused : is_sound (bank_rows rows) ≡ false → inner ≡ lent_file_call_of (Err answers.WrongLength) (bank_rows rows) mailboxes
   unfolding lent_file_call
   unsound-refused e = rw e
 
@@ -208,5 +208,5 @@ module _ (rows mailboxes : List ℕ) (m : ℕ) (file : List ℕ) where
         at true e = refl
         at false e = absurd (let y = sym (file-unsound e) ∙ z in omega arith)
 
-    pub file-answered : (file_call b m file mailboxes).answer ≡ answers.Done
+    pub file-answered : (file_call b m file mailboxes).answer ≡ Ok tt
     file-answered = file-done (file_call b m file mailboxes).answer (sym (file-number file-long file-sound) ∙ z)

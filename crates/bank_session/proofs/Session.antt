@@ -1,4 +1,6 @@
 -- A frame call on a session: the bank's call, and the journal and the counts after it. Assumes nothing.
+use Rattle.number_table.specs.declared.table.WrongLength.{WrongLength}
+use Rattle.std.specs.Prelude.{Err, Ok, Result}
 use Prim.Native.Nat.{ℕ, ◌+◌, ◌≤◌, ◌<◌, ◌^◌}
 use mathlib.Core.Bool.{Bool, true, false, cond, ◌&&◌}
 use mathlib.Core.List.{List, []}
@@ -17,8 +19,6 @@ use Rattle.opening_counts.specs.declared.seven.Counts.{Counts}
 use Rattle.opening_counts.specs.Counts.{can_grow}
 use Rattle.bank_events.specs.Entries.{Holds}
 use Rattle.bank_steps.specs.Lent.{lent, state_of}
-use Rattle.bank.specs.declared.call.FrameAnswer.{FrameAnswer}
-use Rattle.bank.specs.declared.call.FrameAnswer.TheVariants as frame
 use Rattle.bank.specs.declared.call.FrameOut.{FrameOut}
 use Rattle.bank.specs.Call.{FrameInput}
 use Rattle.bank.specs.Journal.{clock_by, entered_by, if_answered, with_entries, journal_after}
@@ -143,11 +143,11 @@ module _ (m : LentSession) (a : FrameInput) where
   turned-away-is e f h n clock = rw (f, none_row h n clock m.row) (sym (frame_refused_lem e))
 
   -- the journal after the call, by what the call enters
-  pub next-is : (answer : FrameAnswer) → journal_next m a answer
+  pub next-is : (answer : Result ℕ WrongLength) → journal_next m a answer
       ≡ with_entries (clock_by (state_of (bank_in m)) a) (if_answered answer (entered_by (state_of (bank_in m)) a)) (journal_in m)
   unfolding journal_after events_from entered_all
-  next-is (frame.Reply n) = refl
-  next-is frame.WrongLength =
+  next-is (Ok n) = refl
+  next-is (Err e) =
       let of : ℕ → Journal = λ (n : ℕ). record { events = n; row = m.row } in
       let none : event_count m.rows ≡ event_count m.rows + 0 = omega arith in
       ap of none

@@ -1,13 +1,13 @@
 -- How a frame call moves the counts: by its verdict, and by how far the open transactions fall over its clock and over
 -- its request.
+use Rattle.number_table.specs.declared.table.WrongLength.{WrongLength}
+use Rattle.std.specs.Prelude.{Err, Ok, Result}
 use Rattle.std.specs.Prelude.{ℕ, ◌-◌}
 use Rattle.bank_state.specs.Clock.{advanced}
 use Rattle.bank_state.specs.Search.{open_count}
 use Rattle.bank_state.specs.State.{BankState}
 use Rattle.opening_counts.specs.declared.seven.Counts.{Counts}
 use Rattle.opening_counts.specs.Counts.{counts_after}
-use Rattle.bank.specs.declared.call.FrameAnswer.{FrameAnswer}
-use Rattle.bank.specs.declared.call.FrameAnswer.TheVariants.{Reply, WrongLength}
 use Rattle.bank.specs.Call.{FrameInput, frame_call, call_verdict}
 
 -- how many the clock of a call drops
@@ -23,6 +23,6 @@ unfoldable pub counts_over : BankState → FrameInput → Counts → Counts
 counts_over w a c = counts_after (call_verdict w a) (gone_by w a) (others_by w a) c
 
 -- a call given number 1 leaves the counts
-abbrev pub counts_by : FrameAnswer → Counts → Counts → Counts
-counts_by (Reply n) after before = after
-counts_by WrongLength after before = before
+abbrev pub counts_by : Result ℕ WrongLength → Counts → Counts → Counts
+counts_by (Ok n) after before = after
+counts_by (Err e) after before = before

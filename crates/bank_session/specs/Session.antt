@@ -1,5 +1,8 @@
 -- The host's calls on a session in lent memory: the bank's call, the journal and the counts after it, and every number,
 -- record and byte.
+use Rattle.number_table.specs.Numbers.{number_one}
+use Rattle.number_table.specs.declared.table.WrongLength.{WrongLength}
+use Rattle.std.specs.Prelude.{Err, Ok, Result}
 use Rattle.std.specs.Prelude.{ℕ, ◌+◌, Bool, cond, ◌&&◌, List, ◌∷◌, ◌++◌, eqb, length, get_or, take}
 use Rattle.number_table.specs.Table as numbers
 use Rattle.bank_rows.specs.Layout.{state_size}
@@ -9,14 +12,11 @@ use Rattle.opening_counts.specs.declared.seven.Counts.{Counts}
 use Rattle.opening_counts.specs.Counts.{count_size, count_row, counts_from, can_grow}
 use Rattle.journal.specs.declared.event.Event.{Event}
 use Rattle.journal.specs.Row.{Journal, takes_events}
-use Rattle.bank.specs.declared.call.FrameAnswer.{FrameAnswer}
 use Rattle.bank.specs.declared.call.FrameOut.{FrameOut}
-use Rattle.bank.specs.declared.mailbox.FileAnswer.TheVariants as answers
+use Rattle.bank.specs.declared.mailbox.FileRefusal.TheVariants as answers
 use Rattle.bank.specs.Call.{FrameInput, frame_number}
 use Rattle.bank.specs.Journal.{journal_after, journal_by}
 use Rattle.bank.specs.Lent.{no_reply, LentFrameCall, lent_frame_call, LentFileCall, lent_file_call_of, lent_file_call}
-use Rattle.bank_session.specs.declared.report.CountAnswer.{CountAnswer}
-use Rattle.bank_session.specs.declared.report.CountAnswer.TheVariants.{Counted, WrongLength}
 use Rattle.bank_session.specs.Counts.{counts_over, counts_by}
 
 -- ---- a session
@@ -75,7 +75,7 @@ session_of m j c = session (with_numbers m.rows j.events c) j.row m.orders m.mai
 pub record SessionFrameCall : Type 0 where
   pub session : LentSession
   pub buffer : List ℕ
-  pub answer : FrameAnswer
+  pub answer : Result ℕ WrongLength
   pub number : ℕ
   pub code : ℕ
 
@@ -90,11 +90,11 @@ takes_frame m =
     && can_grow (counts_in m.rows)
 
 -- the journal after a frame call on the session m that gets this answer
-abbrev pub journal_next : LentSession → FrameInput → FrameAnswer → Journal
+abbrev pub journal_next : LentSession → FrameInput → Result ℕ WrongLength → Journal
 journal_next m a answer = journal_by answer (journal_after (state_of (bank_in m)) a (journal_in m)) (journal_in m)
 
 -- the counts after it
-abbrev pub counts_next : LentSession → FrameInput → FrameAnswer → Counts
+abbrev pub counts_next : LentSession → FrameInput → Result ℕ WrongLength → Counts
 counts_next m a answer =
     counts_by answer (counts_over (state_of (bank_in m)) a (counts_in m.rows)) (counts_in m.rows)
 
@@ -130,18 +130,18 @@ unfoldable pub session_file_call : List ℕ → ℕ → List ℕ → List ℕ �
 session_file_call rows mailbox file mailboxes =
     cond (eqb (length rows) session_size)
     (with_kept rows (lent_file_call (bank_rows rows) mailbox file mailboxes))
-    (lent_file_call_of answers.WrongLength rows mailboxes)
+    (lent_file_call_of (Err answers.WrongLength) rows mailboxes)
 
 -- ---- the counts are asked for, with the session's numbers lent
 
 -- the seven, or number 1 for numbers of another length or that no call leaves: a bank's that fail the one test, or a
 -- count that cannot grow
-unfoldable pub count_call : List ℕ → CountAnswer
+unfoldable pub count_call : List ℕ → Result Counts WrongLength
 count_call rows =
-    cond (eqb (length rows) session_size && is_sound (bank_rows rows) && can_grow (counts_in rows)) (Counted (counts_in rows))
-    WrongLength
+    cond (eqb (length rows) session_size && is_sound (bank_rows rows) && can_grow (counts_in rows)) (Ok (counts_in rows))
+    (Err number_one)
 
 -- document 01's number for an answer, 0 where there are counts
-abbrev pub count_number : CountAnswer → ℕ
-count_number (Counted c) = 0
-count_number WrongLength = numbers.wrong_length
+abbrev pub count_number : Result Counts WrongLength → ℕ
+count_number (Ok c) = 0
+count_number (Err e) = numbers.wrong_length

@@ -11,13 +11,14 @@ ghost use Rattle.bank_session.specs.Session.{session, session_frame_call_of, ses
 use crate::counted::answer_counted;
 use crate::layout::{EVENTS_AT, SESSION_SIZE};
 use crate::numbers::{counts_in, set_numbers};
-use bank::call::{FrameAnswer, FrameOut};
-use bank::mailbox::FileAnswer;
+use bank::call::FrameOut;
+use bank::mailbox::FileRefusal;
 use bank_clock::clock::larger;
 use bank_events::actions::no_events;
 use bank_rows::layout::{CLOCK_AT, STATE_SIZE};
 use journal::event::{Batch, Event, RECORD_COUNT};
 use journal::row::enter;
+use number_table::table::WrongLength;
 use opening_counts::seven::can_grow;
 
 // With as many events before, 64 bits do not hold the numbers of nine more.
@@ -36,10 +37,7 @@ pub struct FrameCore {
 fn takes_events(records: usize, events: u64) -> bool
     ensures { result ≡ takes_events records events }
 {
-    if records != RECORD_COUNT {
-        return false;
-    }
-    events < EVENTS_LIMIT
+    records == RECORD_COUNT && events < EVENTS_LIMIT
 }
 
 // Number 1, and nothing to enter.
@@ -47,15 +45,14 @@ fn turned_away() -> FrameCore
     ensures { (result.out ≡ no_reply) × Holds result.batch [] }
 {
     let out = FrameOut {
-        answer: FrameAnswer::WrongLength,
+        answer: Err(WrongLength),
         code: 0,
     };
-    let batch = no_events();
     FrameCore {
         out,
         before: 0,
         clock: 0,
-        batch,
+        batch: no_events(),
     }
 }
 
@@ -98,14 +95,12 @@ pub fn frame_core(
         buffer,
         counts,
     );
-    let out = step.out;
-    let batch = step.batch;
-    set_numbers(rows, before + batch.count, step.counts);
+    set_numbers(rows, before + step.batch.count, step.counts);
     FrameCore {
-        out,
+        out: step.out,
         before,
         clock,
-        batch,
+        batch: step.batch,
     }
 }
 
@@ -133,12 +128,17 @@ pub fn frame_arrives(
 }
 
 // A file goes into a mailbox, with the session's numbers and the mailboxes' store lent.
-pub fn put_file(rows: &mut [u64], mailbox: u64, file: &[u8], mailboxes: &mut [u8]) -> FileAnswer
+pub fn put_file(
+    rows: &mut [u64],
+    mailbox: u64,
+    file: &[u8],
+    mailboxes: &mut [u8],
+) -> Result<(), FileRefusal>
     ensures { lent_file_call_of result rows.new mailboxes.new
         ≡ session_file_call rows.old mailbox file.now mailboxes.old }
 {
     if rows.len() != SESSION_SIZE {
-        return FileAnswer::WrongLength;
+        return Err(FileRefusal::WrongLength);
     }
     bank::mailbox::put_file(&mut rows[..STATE_SIZE], mailbox, file, mailboxes)
 }

@@ -9,7 +9,7 @@ ghost use Rattle.bank.specs.Journal.{entered_by, if_answered};
 ghost use Rattle.bank.specs.Lent.{no_reply, lent_frame_call_of, lent_frame_call};
 ghost use Rattle.bank_session.specs.Counts.{counts_over, counts_by};
 
-use bank::call::{FrameAnswer, FrameOut, answer_sound};
+use bank::call::{FrameOut, answer_sound};
 use bank_clock::clock::larger;
 use bank_clock::idle::idle_count;
 use bank_events::actions::no_events;
@@ -18,7 +18,8 @@ use bank_rows::numbers::clock;
 use bank_sound::sound::is_sound;
 use bank_verdicts::verdict::Verdict;
 use journal::event::Batch;
-use opening_counts::moves::{counts_after, less};
+use number_table::table::WrongLength;
+use opening_counts::moves::counts_after;
 use opening_counts::seven::Counts;
 
 // What a call comes to: its answer, the events that it enters, and the counts after it.
@@ -34,17 +35,26 @@ pub struct CountedStep {
 fn others_of(before: u64, gone: u64, left: u64) -> u64
     ensures { result ≡ before - gone - left - 1 }
 {
-    less(less(less(before, gone), left), 1)
+    before
+        .saturating_sub(gone)
+        .saturating_sub(left)
+        .saturating_sub(1)
 }
 
 // The counts after a call with this answer: one given number 1 moves none.
-fn moved(answer: FrameAnswer, verdict: Verdict, gone: u64, others: u64, c: Counts) -> Counts
+fn moved(
+    answer: Result<usize, WrongLength>,
+    verdict: Verdict,
+    gone: u64,
+    others: u64,
+    c: Counts,
+) -> Counts
     requires { (can_grow c ≡ true) × (gone ≤ most_moved) × (others ≤ most_moved) }
     ensures { result ≡ counts_by answer (counts_after verdict gone others c) c }
 {
     match answer {
-        FrameAnswer::Reply(_) => counts_after(verdict, gone, others, c),
-        FrameAnswer::WrongLength => c,
+        Ok(_) => counts_after(verdict, gone, others, c),
+        Err(WrongLength) => c,
     }
 }
 
@@ -53,13 +63,12 @@ fn unanswered(c: Counts) -> CountedStep
     ensures { (result.out ≡ no_reply) × Holds result.batch [] × (result.counts ≡ c) }
 {
     let out = FrameOut {
-        answer: FrameAnswer::WrongLength,
+        answer: Err(WrongLength),
         code: 0,
     };
-    let batch = no_events();
     CountedStep {
         out,
-        batch,
+        batch: no_events(),
         counts: c,
     }
 }
@@ -95,10 +104,10 @@ pub(crate) fn answer_counted(
     let step = answer_sound(rows, time, ids, frame, orders, mailboxes, buffer);
     let left = open_count(rows) as u64;
     let others = others_of(before, gone, left);
-    let out = step.out;
-    let answer = out.answer;
-    let verdict = step.verdict;
-    let counts = moved(answer, verdict, gone, others, c);
-    let batch = step.batch;
-    CountedStep { out, batch, counts }
+    let counts = moved(step.out.answer, step.verdict, gone, others, c);
+    CountedStep {
+        out: step.out,
+        batch: step.batch,
+        counts,
+    }
 }

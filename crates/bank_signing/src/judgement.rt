@@ -20,17 +20,15 @@ use message::limits::{FDL, SUBSCRIBERS};
 use signers::set::is_signer;
 
 // 091003: owner not 1 to 8.
+#[tactic(auto, unfolding(bank_verdicts::specs::Refusals::no_owner))]
 fn no_owner(q: Fields) -> bool
     ensures { result ≡ no_owner q }
 {
-    let owner = q.owner();
-    if owner < 1 {
-        return true;
-    }
-    SUBSCRIBERS < owner
+    !(1..=SUBSCRIBERS).contains(&q.owner())
 }
 
 // 061002: order type FDL.
+#[tactic(auto, unfolding(bank_verdicts::specs::Refusals::signs_download))]
 fn signs_download(q: Fields) -> bool
     ensures { result ≡ signs_download q }
 {
@@ -38,6 +36,7 @@ fn signs_download(q: Fields) -> bool
 }
 
 // 061099: 64 nonces remembered.
+#[tactic(auto, unfolding(bank_verdicts::specs::Refusals::no_memory))]
 fn no_memory(rows: &[u64]) -> bool
     requires { Laid rows.now }
     ensures { result ≡ no_memory (bank_of rows.now) }
@@ -68,15 +67,15 @@ fn signed(rows: &[u64], i: usize, q: Fields) -> Verdict
     ensures { result ≡ signed (bank_of rows.now) q }
 {
     let p = place_at(rows, i);
-    let transaction = p.transaction;
     let order = SignedOrder {
-        transaction,
+        transaction: p.transaction,
         number: p.number,
     };
     Verdict::Signed(order, is_new(p, q.subscriber()))
 }
 
-// A signing, judged in document 01's order.
+// A signing, judged in document 01's order: a line for each row of `signing_rows`.
+#[tactic(auto, unfolding(bank_verdicts::specs::Judgement::judge_signing, bank_verdicts::specs::Refusals::signing_rows, bank_verdicts::specs::Refusals::not_booked))]
 pub fn judge_signing(rows: &[u64], q: Fields) -> Verdict
     requires { Laid rows.now × SignerSets (bank_of rows.now) }
     ensures { result ≡ judge_signing (bank_of rows.now) q }

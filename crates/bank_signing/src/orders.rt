@@ -10,30 +10,22 @@ use bank_state::state::Place;
 use message::order_numbers::order_number_of;
 
 // Whether a place holds the booked order of this owner with this order number.
+#[tactic(auto, unfolding(bank_verdicts::specs::Refusals::is_order))]
 fn is_order(p: Place, owner: u64, order: u64) -> bool
     ensures { result ≡ is_order owner order p }
 {
-    let used = p.used;
-    if !is_booked(used) {
-        return false;
-    }
-    if p.subscriber != owner {
-        return false;
-    }
-    order_number_of(p.number) == order
+    is_booked(p.used) && p.subscriber == owner && order_number_of(p.number) == order
 }
 
-// The place of a booked order; the number of places where there is none.
+// The place of a booked order; the number of places where there is none, as `find_order` of specs/ has it.
 pub fn find_order(rows: &[u64], owner: u64, order: u64) -> usize
     requires { Laid rows.now }
     ensures { result ≡ find_order owner order (bank_of rows.now) }
 {
-    let mut i = 0;
-    while i < PLACE_COUNT {
+    for i in 0..PLACE_COUNT {
         if is_order(place_at(rows, i), owner, order) {
             return i;
         }
-        i += 1;
     }
-    i
+    PLACE_COUNT
 }

@@ -16,9 +16,10 @@ fn signed_place(p: Place, subscriber: u64) -> Place
     requires { p.signers ≤ all_signers }
     ensures { result ≡ signed_place subscriber p }
 {
-    let mut g = p;
-    g.signers = with_signer(p.signers as u8, subscriber) as u64;
-    g
+    Place {
+        signers: u64::from(with_signer(p.signers as u8, subscriber)),
+        ..p
+    }
 }
 
 // The subscriber becomes a signer of the order named, and the signing's nonce is remembered.

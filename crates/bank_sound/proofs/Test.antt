@@ -1,13 +1,13 @@
 -- Laws of the test of the rows: what it tells, and that rows of a bank in range pass it. Assumes nothing.
 use Prim.Native.Nat.{ℕ, ◌+◌, ◌-◌, ◌*◌, ◌≤◌, ◌<◌}
-use mathlib.Core.Bool.{Bool, true, false, cond, ◌&&◌}
+use mathlib.Core.Bool.{Bool, true, false, cond}
 use mathlib.Core.List.{List}
 use mathlib.Core.Path.{◌≡◌, refl, sym, ap, ◌∙◌, subst}
 use native.Mathlib.Nat.{add_assoc}
 use native.Mathlib.Omega.{arith}
 use lib.Dec.{eqb, leb, ltb}
 use lib.ListN.{length, get_or, get_or-eq_default}
-use borrow.Author.Tests.{eqb-true, eq-eqb, ne_eqb, leb-true, le-leb, lt-leb, ltb-true, ltb-false, lt-ltb, le-ltb}
+use borrow.Author.Tests.{eqb-true, eq-eqb, leb-true, le-leb, ltb-true, ltb-false, lt-ltb}
 use Rattle.octets.proofs.Tests.{never, and-true}
 use Rattle.message.specs.Limits.{file_bytes, segment_bytes, max_segments, subscribers}
 use Rattle.message.specs.Segments.{segments_of}
@@ -17,24 +17,12 @@ use Rattle.bank_state.specs.declared.state.Place.{Place}
 use Rattle.bank_state.specs.Limits.{place_count, nonce_count, all_signers}
 use Rattle.bank_state.specs.Search.{is_open}
 use Rattle.bank_state.specs.State.{no_place, place_at, download_at, file_length}
-use Rattle.bank_rows.specs.Layout.{
-  files_at,
-  places_at,
-  place_use,
-  place_segments,
-  place_taken,
-  place_length,
-  place_signers,
-  place_width,
-  downloads_at,
-  download_width,
-  state_size,
-}
+use Rattle.bank_rows.specs.Layout.{files_at, places_at, place_use, place_length, place_signers, place_width, downloads_at, download_width, state_size}
 use Rattle.bank_sound.specs.Sound.{is_sound_file, is_sound_upload, is_sound_place, is_sound_download, is_sound, InRange}
 use Rattle.bank_rows.specs.Rows.{all_below}
 use Rattle.bank_rows.specs.State.{download_count_of, nonce_count_of, bank_of, stored, Laid, Held}
 use Rattle.bank_rows.proofs.Reading.{place_from, download_from, length-places-of, file-read, place_read, open-read, download-read, free-download-at}
-use Rattle.bank_rows.proofs.Tests.{and_no, all-holds, all_from}
+use Rattle.bank_rows.proofs.Tests.{all-holds, all_from}
 use Rattle.bank_rows.proofs.State.{stored_back, stored-laid}
 
 -- ---- what the test tells
@@ -46,34 +34,6 @@ only-true false u h e = never e
 true-only : (t u : Bool) → (t ≡ true → u ≡ true) → cond t u true ≡ true
 true-only true u h = h refl
 true-only false u h = refl
-
-module _ (s : List ℕ) (at : ℕ) where
-  pub none-to-come : get_or s (at + place_segments) 0 ≤ get_or s (at + place_taken) 0 → is_sound_upload s at ≡ false
-  unfolding is_sound_upload
-  none-to-come h =
-      let segments = get_or s (at + place_segments) 0 in
-      rw (le-ltb (get_or s (at + place_taken) 0) segments h) (and_no (leb segments max_segments) refl)
-
-  short-at : (t : Bool) → is_sound_upload s at ≡ t → leb (get_or s (at + place_length) 0) file_bytes && t ≡ t
-  unfolding is_sound_upload
-  short-at false e = and_no (leb (get_or s (at + place_length) 0) file_bytes) refl
-  short-at true e =
-      let segments = get_or s (at + place_segments) 0 in
-      let taken = get_or s (at + place_taken) 0 in
-      let size = get_or s (at + place_length) 0 in
-      let a = and-true (leb segments max_segments) (ltb taken segments && leb size (taken * segment_bytes)) e in
-      let b = and-true (ltb taken segments) (leb size (taken * segment_bytes)) a.1 in
-      let few = leb-true segments max_segments a.0 in
-      let below = ltb-true taken segments b.0 in
-      let largest = leb-true size (taken * segment_bytes) b.1 in
-      rw (le-leb size file_bytes (omega arith))
-
-  -- the segments of an open upload bound its length
-  pub bounded-place : get_or s (at + place_use) 0 ≡ 1 → get_or s (at + place_signers) 0 ≤ all_signers → is_sound_upload s at
-      ≡ (leb (get_or s (at + place_use) 0) 2
-      && (leb (get_or s (at + place_signers) 0) all_signers
-      && (leb (get_or s (at + place_length) 0) file_bytes && cond (eqb (get_or s (at + place_use) 0) 1) (is_sound_upload s at) true)))
-  bounded-place e h = rw (e, le-leb _ _ h) (sym (short-at (is_sound_upload s at) refl))
 
 -- the numbers of an open upload, and of an open download where the mailboxes' files have these lengths
 abbrev UploadRange : Place → Type 0
@@ -232,48 +192,3 @@ module _ (s : List ℕ) (l : Laid s) (r : InRange (bank_of s)) where
 pub stored-sound : (b : Bank) (old : List ℕ) → Held b → Laid old → InRange b → is_sound (stored b old) ≡ true
 stored-sound b old k l r =
     sound-rows (stored b old) (stored-laid b k old l) (subst InRange (sym (stored_back b k old l)) r)
-
--- ---- the tests from top to bottom
-
-module _ (s : List ℕ) where
-  pub other_length : (length s ≡ state_size → ⊥) → false ≡ is_sound s
-  unfolding is_sound
-  other_length e = rw (ne_eqb (length s) state_size e)
-
-  module _ (e : length s ≡ state_size) where
-    pub many-downloads : place_count < download_count_of s → false ≡ is_sound s
-    unfolding is_sound
-    many-downloads h = rw (eq-eqb (length s) state_size e, lt-leb (download_count_of s) place_count h)
-
-    module _ (d : download_count_of s ≤ place_count) where
-      pub many-nonces : nonce_count < nonce_count_of s → false ≡ is_sound s
-      unfolding is_sound
-      many-nonces h =
-          rw (
-            eq-eqb (length s) state_size e,
-            le-leb (download_count_of s) place_count d,
-            lt-leb (nonce_count_of s) nonce_count h,
-          )
-
-      module _ (n : nonce_count_of s ≤ nonce_count) where
-        rest : is_sound s
-            ≡ (all_below (is_sound_file s) place_count
-            && (all_below (is_sound_place s) place_count && all_below (is_sound_download s) (download_count_of s)))
-        unfolding is_sound
-        rest =
-            rw (
-              eq-eqb (length s) state_size e,
-              le-leb (download_count_of s) place_count d,
-              le-leb (nonce_count_of s) nonce_count n,
-            )
-
-        pub bad-file : all_below (is_sound_file s) place_count ≡ false → false ≡ is_sound s
-        bad-file f = sym (rest ∙ rw f)
-
-        pub bad-place : all_below (is_sound_file s) place_count ≡ true → all_below (is_sound_place s) place_count ≡ false
-            → false ≡ is_sound s
-        bad-place f p = sym (rest ∙ rw (f, p))
-
-        pub downloads-decide : all_below (is_sound_file s) place_count ≡ true → all_below (is_sound_place s) place_count ≡ true
-            → all_below (is_sound_download s) (download_count_of s) ≡ is_sound s
-        downloads-decide f p = sym (rest ∙ rw (f, p))

@@ -20,30 +20,20 @@ fn are_sound_files(rows: &[u64]) -> bool
     requires { length rows.now ≡ state_size }
     ensures { result ≡ all_below (is_sound_file rows.now) place_count }
 {
-    let mut i = 0;
-    while i < PLACE_COUNT {
-        if (FILE_BYTES as u64) < rows[FILES_AT + i] {
-            return false;
-        }
-        i += 1;
-    }
-    true
+    (0..PLACE_COUNT).all(|i| rows[FILES_AT + i] <= FILE_BYTES as u64)
 }
 
 // Whether the row that starts here can be an open upload's.
+#[tactic(auto, unfolding(crate::specs::Sound::is_sound_upload))]
 fn is_sound_upload(rows: &[u64], at: usize) -> bool
     requires { (length rows.now ≡ state_size) × (at + place_width ≤ state_size) }
     ensures { result ≡ is_sound_upload rows.now at }
 {
     let segments = rows[at + PLACE_SEGMENTS];
     let taken = rows[at + PLACE_TAKEN];
-    if segments <= taken {
-        return false;
-    }
-    if MAX_SEGMENTS < segments {
-        return false;
-    }
-    rows[at + PLACE_LENGTH] <= taken * SEGMENT_BYTES as u64
+    segments <= MAX_SEGMENTS
+        && taken < segments
+        && rows[at + PLACE_LENGTH] <= taken * SEGMENT_BYTES as u64
 }
 
 // An open upload's segments bound its length.
@@ -52,30 +42,17 @@ fn is_sound_place(rows: &[u64], i: usize) -> bool
     ensures { result ≡ is_sound_place rows.now i }
 {
     let at = PLACES_AT + PLACE_WIDTH * i;
-    if BOOKED < rows[at + PLACE_USE] {
-        return false;
-    }
-    if ALL_SIGNERS < rows[at + PLACE_SIGNERS] {
-        return false;
-    }
-    if rows[at + PLACE_USE] == OPEN {
-        return is_sound_upload(rows, at);
-    }
-    rows[at + PLACE_LENGTH] <= FILE_BYTES as u64
+    rows[at + PLACE_USE] <= BOOKED
+        && rows[at + PLACE_SIGNERS] <= ALL_SIGNERS
+        && rows[at + PLACE_LENGTH] <= FILE_BYTES as u64
+        && (rows[at + PLACE_USE] != OPEN || is_sound_upload(rows, at))
 }
 
 fn are_sound_places(rows: &[u64]) -> bool
     requires { length rows.now ≡ state_size }
     ensures { result ≡ all_below (is_sound_place rows.now) place_count }
 {
-    let mut i = 0;
-    while i < PLACE_COUNT {
-        if !is_sound_place(rows, i) {
-            return false;
-        }
-        i += 1;
-    }
-    true
+    (0..PLACE_COUNT).all(|i| is_sound_place(rows, i))
 }
 
 fn is_sound_download(rows: &[u64], i: usize) -> bool
@@ -84,14 +61,8 @@ fn is_sound_download(rows: &[u64], i: usize) -> bool
 {
     let at = DOWNLOADS_AT + DOWNLOAD_WIDTH * i;
     let subscriber = rows[at + DOWNLOAD_SUBSCRIBER];
-    if subscriber < 1 {
-        return false;
-    }
-    if SUBSCRIBERS < subscriber {
-        return false;
-    }
-    let mailbox = (subscriber - 1) as usize;
-    rows[at + DOWNLOAD_DELIVERED] <= segments_of(rows[FILES_AT + mailbox])
+    (1..=SUBSCRIBERS).contains(&subscriber)
+        && rows[at + DOWNLOAD_DELIVERED] <= segments_of(rows[FILES_AT + (subscriber - 1) as usize])
 }
 
 fn are_sound_downloads(rows: &[u64]) -> bool
@@ -99,34 +70,18 @@ fn are_sound_downloads(rows: &[u64]) -> bool
     ensures { result ≡ all_below (is_sound_download rows.now) (download_count_of rows.now) }
 {
     let n = rows[DOWNLOAD_COUNT_AT] as usize;
-    let mut i = 0;
-    while i < n {
-        if !is_sound_download(rows, i) {
-            return false;
-        }
-        i += 1;
-    }
-    true
+    (0..n).all(|i| is_sound_download(rows, i))
 }
 
 // Whether the rows can be a bank's.
+#[tactic(auto, unfolding(crate::specs::Sound::is_sound))]
 pub fn is_sound(rows: &[u64]) -> bool
     ensures { result ≡ is_sound rows.now }
 {
-    if rows.len() != STATE_SIZE {
-        return false;
-    }
-    if (PLACE_COUNT as u64) < rows[DOWNLOAD_COUNT_AT] {
-        return false;
-    }
-    if (NONCE_COUNT as u64) < rows[NONCE_COUNT_AT] {
-        return false;
-    }
-    if !are_sound_files(rows) {
-        return false;
-    }
-    if !are_sound_places(rows) {
-        return false;
-    }
-    are_sound_downloads(rows)
+    rows.len() == STATE_SIZE
+        && rows[DOWNLOAD_COUNT_AT] <= PLACE_COUNT as u64
+        && rows[NONCE_COUNT_AT] <= NONCE_COUNT as u64
+        && are_sound_files(rows)
+        && are_sound_places(rows)
+        && are_sound_downloads(rows)
 }

@@ -1,39 +1,13 @@
 -- Laws of bytes written into a store, and of the lengths of its parts. Assumes nothing.
-use Prim.Native.Nat.{ℕ, suc, ◌+◌, ◌-◌, ◌*◌, ◌≤◌, ◌<◌}
+use Prim.Native.Nat.{ℕ, ◌+◌, ◌-◌, ◌*◌, ◌≤◌, ◌<◌}
 use mathlib.Core.Bool.{Bool, true, false}
 use mathlib.Core.List.{List, ◌++◌, append_assoc, append-nil}
 use mathlib.Core.Path.{◌≡◌, refl, sym, ap, ◌∙◌}
 use native.Mathlib.Nat.{add-sub_cancel_left, zero-add}
-use native.Mathlib.Numerals.{add-one}
 use native.Mathlib.Omega.{arith}
 use lib.Dec.{ltb}
-use lib.ListN.{
-  length,
-  take,
-  drop,
-  get_or,
-  set,
-  replicate,
-  length-append,
-  length-take,
-  length-drop,
-  length-replicate,
-  replicate-append-replicate,
-  take-append-drop,
-}
-use lib.Seq.{
-  take_all,
-  drop-length,
-  drop-drop,
-  length-take-le,
-  drop-cons,
-  set_at,
-  drop_at,
-  take-append-le,
-  drop-append-le,
-  take-append_seam,
-  drop-append-add,
-}
+use lib.ListN.{length, take, drop, get_or, replicate, length-append, length-take, length-drop, length-replicate, take-append-drop}
+use lib.Seq.{take_all, drop-length, drop-drop, length-take-le, drop_at, take-append-le, drop-append-le, take-append_seam, drop-append-add}
 use borrow.Rule.Slice.PartMut.{put_mid, mid_of, mid_len, Post-is}
 use borrow.Author.Tests.{ltb-true, ltb-false}
 use Rattle.octets.specs.Bytes.{overwrite}
@@ -44,16 +18,6 @@ use Rattle.bank_state.specs.State.{BankState, file_length}
 use Rattle.bank_state.specs.Store.{part_at, with_part, zeroed, file_of, mailbox_file}
 
 -- one more byte zeroed from the front
-pub zeros-next : (p : List ℕ) (i : ℕ) → i < length p → set (replicate i 0 ++ drop i p) i 0 ≡ replicate (i + 1) 0 ++ drop (i + 1) p
-zeros-next p i h =
-    rw (
-      drop-cons p i 0,
-      set_at (replicate i 0) (get_or p i 0) (drop (suc i) p) 0 i (length-replicate i 0),
-      ← replicate-append-replicate {A = ℕ} i 1 0,
-      append_assoc,
-      add-one,
-    )
-
 -- a part of n bytes that came back as x
 pub part-back : (s x : List ℕ) (a n : ℕ) → a + n ≤ length s → length x ≡ length (mid_of a (a + n - a) s)
     → put_mid a (a + n - a) s x ≡ overwrite s a x

@@ -16,8 +16,5 @@ pub enum Ended {
 pub fn is_behind(clock: u64, time: u64, limit: u64) -> bool
     ensures { result ≡ is_behind clock time limit }
 {
-    if clock < limit {
-        return false;
-    }
-    time < clock - limit
+    limit <= clock && time < clock - limit
 }

@@ -7,9 +7,5 @@ use crate::state::Use;
 pub fn is_booked(used: Use) -> bool
     ensures { result ≡ is_booked used }
 {
-    match used {
-        Use::Free => false,
-        Use::Open => false,
-        Use::Booked => true,
-    }
+    matches!(used, Use::Booked)
 }

@@ -47,10 +47,9 @@ const NO_BITS: Bits128 = Bits128 { high: 0, low: 0 };
 pub fn no_place() -> Place
     ensures { result ≡ no_place }
 {
-    let transaction = NO_BITS;
     Place {
         used: Use::Free,
-        transaction,
+        transaction: NO_BITS,
         subscriber: 0,
         number: 0,
         segments: 0,

@@ -7,17 +7,13 @@ ghost use Rattle.bank_state.specs.Store.{part_at, zeroed, file_of};
 use message::limits::FILE_BYTES;
 use octets::bytes::{behind_pieces, copy, front};
 
-// The most bytes that one loop clears: a quarter of a place.
+// The most bytes that one fill clears: a quarter of a place.
 const BLOCK_BYTES: usize = FILE_BYTES / 4;
 
 fn clear_block(part: &mut [u8])
     ensures { part.new ≡ replicate (length part.old) 0 }
 {
-    let mut i = 0;
-    while i < part.len() {
-        part[i] = 0;
-        i += 1;
-    }
+    part.fill(0);
 }
 
 // Sets every byte to 0, by halves, since one long fill becomes a repeated instruction that counts once for each byte.
@@ -40,24 +36,26 @@ pub fn zero(store: &mut [u8], i: usize)
     ensures { store.new ≡ zeroed store.old i }
 {
     let from = i * FILE_BYTES;
-    let end = from + FILE_BYTES;
-    clear(&mut store[from..end]);
+    clear(&mut store[from..from + FILE_BYTES]);
 }
 
 // The bytes of place or mailbox i of a store.
+#[tactic(auto, unfolding(crate::specs::Store::part_at))]
 pub fn part(store: &[u8], i: usize) -> &[u8]
     ensures { result.now ≡ part_at store.now i }
 {
-    let rest = behind_pieces(store, i as u64, FILE_BYTES as u64);
-    front(rest, FILE_BYTES)
+    front(
+        behind_pieces(store, i as u64, FILE_BYTES as u64),
+        FILE_BYTES,
+    )
 }
 
 // The file of n bytes in mailbox i.
+#[tactic(auto, unfolding(crate::specs::Store::file_of))]
 pub fn file_of(mailboxes: &[u8], i: usize, n: u64) -> &[u8]
     ensures { result.now ≡ file_of mailboxes.now i n }
 {
-    let file = part(mailboxes, i);
-    front(file, n as usize)
+    front(part(mailboxes, i), n as usize)
 }
 
 // Writes a segment directly behind the bytes already in its place, which end at `at`.

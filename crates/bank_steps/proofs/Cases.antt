@@ -25,7 +25,7 @@ use Rattle.bank_state.specs.Search.{free_place, is_upload, find_upload, is_downl
 use Rattle.bank_state.specs.State.{BankState, place_at, download_at, file_length}
 use Rattle.bank_state.proofs.Rows.{first_passes}
 use Rattle.bank_verdicts.specs.declared.verdict.Context.{Context}
-use Rattle.bank_verdicts.specs.declared.verdict.Direction.TheVariants as direction
+use Rattle.message.specs.declared.directions.Direction.TheVariants as direction
 use Rattle.bank_verdicts.specs.declared.verdict.TransactionRequest.{TransactionRequest}
 use Rattle.bank_verdicts.specs.declared.verdict.TransactionRequest.TheVariants as asked
 use Rattle.bank_verdicts.specs.declared.verdict.UploadAction.{UploadAction}

@@ -22,8 +22,8 @@ use Rattle.bank_rows.proofs.Calls as calls
 use Rattle.bank_rows.proofs.Reading.{found-download}
 use Rattle.bank_rows.proofs.State.{stored_back, stored-laid, stored-download-count}
 use Rattle.bank_verdicts.specs.declared.verdict.Context.{Context}
-use Rattle.bank_verdicts.specs.declared.verdict.Direction.{Direction}
-use Rattle.bank_verdicts.specs.declared.verdict.Direction.TheVariants as direction
+use Rattle.message.specs.declared.directions.Direction.{Direction}
+use Rattle.message.specs.declared.directions.Direction.TheVariants as direction
 use Rattle.bank_verdicts.specs.declared.verdict.DownloadAction.{DownloadAction}
 use Rattle.bank_verdicts.specs.declared.verdict.DownloadAction.TheVariants as down
 use Rattle.bank_verdicts.specs.declared.verdict.TransactionRequest.{TransactionRequest}

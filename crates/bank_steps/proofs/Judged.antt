@@ -16,8 +16,8 @@ use Rattle.message.proofs.Verdicts.{by-test, and-false}
 use Rattle.bank_state.specs.State.{Bank}
 use Rattle.bank_state.specs.Limits.{place_count}
 use Rattle.bank_verdicts.specs.declared.verdict.Context.{Context}
-use Rattle.bank_verdicts.specs.declared.verdict.Direction.{Direction}
-use Rattle.bank_verdicts.specs.declared.verdict.Direction.TheVariants as direction
+use Rattle.message.specs.declared.directions.Direction.{Direction}
+use Rattle.message.specs.declared.directions.Direction.TheVariants as direction
 use Rattle.bank_verdicts.specs.declared.verdict.TransactionRequest.{TransactionRequest}
 use Rattle.bank_verdicts.specs.declared.verdict.TransactionRequest.TheVariants as asked
 use Rattle.bank_verdicts.specs.declared.verdict.Verdict.{Verdict}

@@ -28,7 +28,7 @@ use Rattle.bank_sound.specs.Sound.{InRange}
 use Rattle.bank_rows.specs.State.{Held}
 use Rattle.bank_sound.proofs.Range.{upload-room, ended-range}
 use Rattle.bank_verdicts.specs.declared.verdict.Context.{Context}
-use Rattle.bank_verdicts.specs.declared.verdict.Direction.{Direction}
+use Rattle.message.specs.declared.directions.Direction.{Direction}
 use Rattle.bank_verdicts.specs.declared.verdict.DownloadAction.{DownloadAction}
 use Rattle.bank_verdicts.specs.declared.verdict.TransactionRequest.{TransactionRequest}
 use Rattle.bank_verdicts.specs.declared.verdict.UploadAction.{UploadAction}

@@ -12,7 +12,7 @@ use Rattle.bank_state.specs.State.{Bank, BankState, bank_state, place_at, downlo
 use Rattle.bank_state.specs.State.{with_place, with_download, with_downloads, with_files}
 use Rattle.bank_state.specs.Store.{part_at, with_part, zeroed}
 use Rattle.bank_verdicts.specs.declared.verdict.Context.{Context}
-use Rattle.bank_verdicts.specs.declared.verdict.Direction.TheVariants as direction
+use Rattle.message.specs.declared.directions.Direction.TheVariants as direction
 use Rattle.bank_verdicts.specs.declared.verdict.UploadAction.{UploadAction}
 use Rattle.bank_verdicts.specs.declared.verdict.UploadAction.TheVariants as up
 use Rattle.bank_verdicts.specs.declared.verdict.DownloadAction.{DownloadAction}

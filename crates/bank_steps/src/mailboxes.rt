@@ -8,18 +8,12 @@ use message::limits::SUBSCRIBERS;
 pub fn is_no_mailbox(number: u64) -> bool
     ensures { result ≡ is_no_mailbox number }
 {
-    if number < 1 {
-        return true;
-    }
-    SUBSCRIBERS < number
+    !(1..=SUBSCRIBERS).contains(&number)
 }
 
 // The place of a mailbox among the mailboxes, by its number.
 pub fn mailbox_of(number: u64) -> usize
     ensures { result ≡ mailbox_of number }
 {
-    if number == 0 {
-        return 0;
-    }
-    (number - 1) as usize
+    number.saturating_sub(1) as usize
 }

@@ -1,4 +1,5 @@
-// A request, read, at the clock that the call has set: it is judged once, and its verdict is carried out.
+// A request, read, at the clock that the call has set: it is judged once, and its verdict is carried out. Rows, orders
+// and mailboxes are lent one by one, since each function borrows those alone that it may write.
 ghost use Rattle.std.specs.Prelude.{◌≡◌, List, ℕ, ◌<◌, ◌≤◌, length};
 ghost use Rattle.frame_table.specs.Names.{subscriber, form};
 ghost use Rattle.message.specs.Limits.{subscribers, segment_bytes};
@@ -27,41 +28,28 @@ use bank_state::limits::PLACE_COUNT;
 use bank_state::store::zero;
 use bank_uploads::uploads::upload_step;
 use bank_verdicts::verdict::{
-    Action, Context, Direction, DownloadAction, TransactionRequest, Verdict, opened_number,
+    Action, Context, DownloadAction, TransactionRequest, Verdict, opened_number,
 };
 use frame_table::fields::Fields;
 use frame_table::table::{Form, RequestForm, is_request_form};
 use message::codes::ReturnCode;
+use message::directions::Direction;
 use message::limits::{FILE_BYTES, SEGMENT_BYTES};
 
-// An opening of an upload, of either edition.
-fn upload_opening(rows: &mut [u64], context: Context, q: Fields) -> Verdict
+// An opening of this direction, of either edition.
+fn opening(rows: &mut [u64], direction: Direction, context: Context, q: Fields) -> Verdict
     requires { Laid rows.old }
     ensures { (o m d : List ℕ) →
-        CarriedOut (judge_opening Direction.Upload context (bank_of rows.old) q)
+        CarriedOut (judge_opening direction context (bank_of rows.old) q)
         (lent rows.old o m) q d result (lent rows.new o m) }
 {
-    let verdict = judge_opening(rows, Direction::Upload, context, q);
-    match verdict {
-        Verdict::Of(transaction, action) => {
-            let number = opened_number(action);
-            open_upload(rows, transaction, number, q);
+    let verdict = judge_opening(rows, direction, context, q);
+    match (verdict, direction) {
+        (Verdict::Of(transaction, action), Direction::Upload) => {
+            open_upload(rows, transaction, opened_number(action), q);
             verdict
         }
-        _ => verdict,
-    }
-}
-
-// An opening of a download.
-fn download_opening(rows: &mut [u64], context: Context, q: Fields) -> Verdict
-    requires { Laid rows.old }
-    ensures { (o m d : List ℕ) →
-        CarriedOut (judge_opening Direction.Download context (bank_of rows.old) q)
-        (lent rows.old o m) q d result (lent rows.new o m) }
-{
-    let verdict = judge_opening(rows, Direction::Download, context, q);
-    match verdict {
-        Verdict::Of(transaction, _) => {
+        (Verdict::Of(transaction, _), Direction::Download) => {
             open_download(rows, transaction, q);
             verdict
         }
@@ -106,11 +94,8 @@ fn on_upload(
     let from = i * FILE_BYTES;
     let end = from + FILE_BYTES;
     let u = upload_step(time, asked, p, q, bytes, &mut orders[from..end]);
-    let place = u.place;
-    set_place(rows, i, place);
-    let transaction = p.transaction;
-    let action = u.action;
-    Verdict::Of(transaction, Action::Upload(action))
+    set_place(rows, i, u.place);
+    Verdict::Of(p.transaction, Action::Upload(u.action))
 }
 
 // A subscriber's mailbox is emptied, and its downloads end.
@@ -136,21 +121,14 @@ fn downloads_after(rows: &mut [u64], j: usize, s: DownloadStep, q: Fields, mailb
         ≡ kept_in (lent rows.old o mailboxes.old)
         (on_download s.action j (state_of (lent rows.old o mailboxes.old)) q) }
 {
-    let action = s.action;
-    match action {
-        DownloadAction::Cancelled => {
-            end_downloads(rows, Ended::Transaction(q.subscriber(), q.transaction()));
-        }
-        DownloadAction::Declined => {
+    match s.action {
+        DownloadAction::Cancelled | DownloadAction::Declined => {
             end_downloads(rows, Ended::Transaction(q.subscriber(), q.transaction()));
         }
         DownloadAction::Confirmed => {
             emptied(rows, q.subscriber(), mailboxes);
         }
-        _ => {
-            let entry = s.entry;
-            set_download(rows, j, entry);
-        }
+        _ => set_download(rows, j, s.entry),
     }
 }
 
@@ -173,9 +151,7 @@ fn on_download(
     let n = mailbox_segments(rows, q.subscriber());
     let s = download_step(time, asked, e, n, q);
     downloads_after(rows, j, s, q, mailboxes);
-    let transaction = e.transaction;
-    let action = s.action;
-    Verdict::Of(transaction, Action::Download(action))
+    Verdict::Of(e.transaction, Action::Download(s.action))
 }
 
 // A request to a transaction: an open upload's, an open download's, or one that is not open.
@@ -218,13 +194,12 @@ fn target_of(request: RequestForm) -> Target
     ensures { result ≡ target_of request }
 {
     match request {
-        RequestForm::UploadOpening => Target::UploadOpening,
+        RequestForm::UploadOpening | RequestForm::ChosenOpening => Target::UploadOpening,
         RequestForm::DownloadOpening => Target::DownloadOpening,
         RequestForm::UploadTransfer => Target::Transaction(TransactionRequest::UploadTransfer),
         RequestForm::DownloadTransfer => Target::Transaction(TransactionRequest::DownloadTransfer),
         RequestForm::Receipt => Target::Transaction(TransactionRequest::Receipt),
         RequestForm::Signing => Target::Signing,
-        RequestForm::ChosenOpening => Target::UploadOpening,
     }
 }
 
@@ -244,10 +219,9 @@ fn by_request(
         (lent rows.old orders.old mailboxes.old) q bytes.now
         result (lent rows.new orders.new mailboxes.new) }
 {
-    let target = target_of(request);
-    match target {
-        Target::UploadOpening => upload_opening(rows, context, q),
-        Target::DownloadOpening => download_opening(rows, context, q),
+    match target_of(request) {
+        Target::UploadOpening => opening(rows, Direction::Upload, context, q),
+        Target::DownloadOpening => opening(rows, Direction::Download, context, q),
         Target::Transaction(asked) => on_transaction(rows, asked, q, bytes, orders, mailboxes),
         Target::Signing => signing(rows, q),
     }
@@ -267,15 +241,13 @@ fn by_form(
         (lent rows.old orders.old mailboxes.old) q bytes.now
         result (lent rows.new orders.new mailboxes.new) }
 {
-    let form = q.form();
-    match form {
-        Form::NoForm => Verdict::Unreadable,
+    match q.form() {
         Form::Request(request) => by_request(request, rows, context, q, bytes, orders, mailboxes),
-        Form::Reply(_) => Verdict::Unreadable,
+        Form::NoForm | Form::Reply(_) => Verdict::Unreadable,
     }
 }
 
-// A request: judged in document 01's order, and carried out.
+// A request: judged in document 01's order, a line for each row of `request_rows`, and carried out.
 pub fn step(
     rows: &mut [u64],
     context: Context,

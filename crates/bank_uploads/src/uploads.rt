@@ -27,45 +27,40 @@ pub struct UploadOut {
 fn fits_upload(r: TransactionRequest, p: Place, q: Fields) -> bool
     ensures { result ≡ fits_upload r p q }
 {
-    match r {
-        TransactionRequest::UploadTransfer => is_next(q.segment(), p.taken),
-        TransactionRequest::DownloadTransfer => false,
-        TransactionRequest::Receipt => false,
-    }
+    r == TransactionRequest::UploadTransfer && is_next(q.segment(), p.taken)
 }
 
 // Whether a segment below N has last mark 1.
+#[tactic(auto, unfolding(bank_verdicts::specs::Refusals::is_underrun))]
 fn is_underrun(p: Place, q: Fields) -> bool
     ensures { result ≡ is_underrun p q }
 {
-    if p.segments <= q.segment() {
-        return false;
-    }
-    q.last_mark() == 1
+    q.segment() < p.segments && q.last_mark() == 1
 }
 
 // Whether segment N has last mark 0.
+#[tactic(auto, unfolding(bank_verdicts::specs::Refusals::is_exceeded))]
 fn is_exceeded(p: Place, q: Fields) -> bool
     ensures { result ≡ is_exceeded p q }
 {
-    if q.segment() != p.segments {
-        return false;
-    }
-    q.last_mark() == 0
+    q.segment() == p.segments && q.last_mark() == 0
 }
 
 // Segment N books the order.
+#[tactic(auto, unfolding(bank_verdicts::specs::Judgement::takes))]
 fn takes(p: Place, segment: u64) -> UploadAction
     requires { segment ≡ p.taken + 1 }
     ensures { result ≡ takes p }
 {
     if segment == p.segments {
-        return UploadAction::TookLast;
+        UploadAction::TookLast
+    } else {
+        UploadAction::Took
     }
-    UploadAction::Took
 }
 
-// What a segment that fits does, checked in document 01's order.
+// What a segment that fits does, checked in document 01's order: a line for each row of `segment_rows`.
+#[tactic(auto, unfolding(bank_verdicts::specs::Refusals::segment_rows))]
 fn judge_segment(p: Place, q: Fields) -> UploadAction
     requires { segment q ≡ p.taken + 1 }
     ensures { result ≡ judged (segment_rows p q) (takes p) }
@@ -80,6 +75,7 @@ fn judge_segment(p: Place, q: Fields) -> UploadAction
 }
 
 // What a request does.
+#[tactic(auto, unfolding(bank_verdicts::specs::Judgement::judge_upload, bank_verdicts::specs::Refusals::upload_rows, bank_verdicts::specs::Refusals::upload_attempt))]
 pub fn judge_upload(r: TransactionRequest, p: Place, q: Fields) -> UploadAction
     ensures { result ≡ judge_upload r p q }
 {
@@ -93,45 +89,47 @@ pub fn judge_upload(r: TransactionRequest, p: Place, q: Fields) -> UploadAction
 }
 
 // The place with one segment of n bytes more, which is segment `taken`.
+#[tactic(auto, unfolding(crate::specs::Uploads::grown))]
 fn grown(p: Place, clock: u64, taken: u64, n: usize) -> Place
     requires { (taken ≡ p.taken + 1) × (p.length + n ≤ file_bytes) }
     ensures { result ≡ grown clock n p }
 {
-    let mut g = p;
-    g.taken = taken;
-    g.last = clock;
-    g.length = p.length + n as u64;
-    g
+    Place {
+        taken,
+        last: clock,
+        length: p.length + n as u64,
+        ..p
+    }
 }
 
 // The place with the order booked, after its last segment of n bytes; nobody has signed it.
+#[tactic(auto, unfolding(crate::specs::Uploads::booked))]
 fn booked(p: Place, n: usize) -> Place
     requires { p.length + n ≤ file_bytes }
     ensures { result ≡ booked n p }
 {
-    let transaction = p.transaction;
     Place {
         used: Use::Booked,
-        transaction,
-        subscriber: p.subscriber,
-        number: p.number,
         segments: 0,
         taken: 0,
         attempts: 0,
         last: 0,
         length: p.length + n as u64,
         signers: 0,
+        ..p
     }
 }
 
 // The place with one recovery attempt more.
+#[tactic(auto, unfolding(crate::specs::Uploads::attempted))]
 fn attempted(p: Place) -> Place
     requires { p.attempts < max_attempts }
     ensures { result ≡ attempted p }
 {
-    let mut a = p;
-    a.attempts = p.attempts + 1;
-    a
+    Place {
+        attempts: p.attempts + 1,
+        ..p
+    }
 }
 
 // The segment is written directly behind the bytes already in its place.
@@ -139,8 +137,7 @@ fn take(p: Place, data: &[u8], bytes: &mut [u8])
     requires { p.length + length «data».now ≤ length bytes.old }
     ensures { bytes.new ≡ overwrite bytes.old p.length «data».now }
 {
-    let at = p.length as usize;
-    append(bytes, at, data);
+    append(bytes, p.length as usize, data);
 }
 
 // The place is zeroed and freed.
@@ -152,6 +149,7 @@ fn free(bytes: &mut [u8]) -> Place
 }
 
 // A request to an open upload arrives; `segment` is its data, and `bytes` are the place's bytes, with room for it.
+#[tactic(auto, unfolding(crate::specs::Uploads::upload_step))]
 pub fn upload_step(
     clock: u64,
     r: TransactionRequest,

@@ -23,8 +23,8 @@ use Rattle.bank_state.proofs.Numbers.{next-by-own, next-unheld}
 use Rattle.bank_state.specs.Search.{free_place, free_nonce, open_count, open_count_of, is_remembered, find_number, is_number_held}
 use Rattle.bank_verdicts.specs.declared.verdict.Action.TheVariants as action
 use Rattle.bank_verdicts.specs.declared.verdict.Context.{Context}
-use Rattle.bank_verdicts.specs.declared.verdict.Direction.{Direction}
-use Rattle.bank_verdicts.specs.declared.verdict.Direction.TheVariants as direction
+use Rattle.message.specs.declared.directions.Direction.{Direction}
+use Rattle.message.specs.declared.directions.Direction.TheVariants as direction
 use Rattle.bank_verdicts.specs.declared.verdict.UploadAction.TheVariants as up
 use Rattle.bank_verdicts.specs.declared.verdict.Verdict.{Verdict}
 use Rattle.bank_verdicts.specs.declared.verdict.Verdict.TheVariants.{Of}

@@ -13,7 +13,7 @@ use Rattle.bank_state.specs.State.{Bank}
 use Rattle.bank_state.specs.Limits.{max_open, shared_open, sure_open, idle_others}
 use Rattle.bank_state.specs.Search.{open_count}
 use Rattle.bank_verdicts.specs.declared.verdict.Context.{Context}
-use Rattle.bank_verdicts.specs.declared.verdict.Direction.{Direction}
+use Rattle.message.specs.declared.directions.Direction.{Direction}
 use Rattle.bank_verdicts.specs.declared.verdict.Verdict.{Verdict}
 use Rattle.bank_verdicts.specs.Refusals.{
   Row,

@@ -23,8 +23,8 @@ use Rattle.bank_state.specs.Search.{find_upload, find_download}
 use Rattle.bank_state.specs.Numbers.{next_number}
 use Rattle.bank_state.specs.State.{place_at, download_at, file_length}
 use Rattle.bank_verdicts.specs.declared.verdict.Context.{Context}
-use Rattle.bank_verdicts.specs.declared.verdict.Direction.{Direction}
-use Rattle.bank_verdicts.specs.declared.verdict.Direction.TheVariants as direction
+use Rattle.message.specs.declared.directions.Direction.{Direction}
+use Rattle.message.specs.declared.directions.Direction.TheVariants as direction
 use Rattle.bank_verdicts.specs.declared.verdict.TransactionRequest.{TransactionRequest}
 use Rattle.bank_verdicts.specs.declared.verdict.TransactionRequest.TheVariants as asked
 use Rattle.bank_verdicts.specs.declared.verdict.UploadAction.{UploadAction}

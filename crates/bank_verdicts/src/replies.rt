@@ -1,9 +1,9 @@
 // The reply that a verdict gives.
-ghost use Rattle.std.specs.Prelude.{◌≡◌};
+ghost use Rattle.std.specs.Prelude.{◌≡◌, cond, eqb};
+ghost use Rattle.message.specs.Limits.{initialisation_phase, transfer_phase};
 ghost use Rattle.message.specs.Editions.{edition_of};
-ghost use Rattle.bank_verdicts.specs.Replies.{upload_point_phase, download_point_phase, segment_reply};
-ghost use Rattle.bank_verdicts.specs.Replies.{opened_reply, upload_reply, download_reply, action_reply, reply_to};
-ghost use Rattle.bank_verdicts.specs.Replies.{download_segment_in, action_segment_in, segment_in};
+ghost use Rattle.bank_verdicts.specs.Replies.{segment_reply, opened_reply, upload_reply, download_reply, reply_to};
+ghost use Rattle.bank_verdicts.specs.Replies.{download_segment_in, segment_in};
 
 use crate::verdict::{Action, DownloadAction, UploadAction, Verdict};
 use frame_table::fields::{Bits128, Fields};
@@ -17,24 +17,15 @@ use message::replies::{
 };
 use message::segments::last_mark_of;
 
-// The phase of an upload's recovery point k.
-fn upload_point_phase(taken: u64) -> u64
-    ensures { result ≡ upload_point_phase taken }
+// The phase of a recovery point: 1 for a transaction's first one, else 2.
+fn point_phase(point: u64, first: u64) -> u64
+    ensures { result ≡ cond (eqb point first) initialisation_phase transfer_phase }
 {
-    if taken == 0 {
-        return INITIALISATION_PHASE;
+    if point == first {
+        INITIALISATION_PHASE
+    } else {
+        TRANSFER_PHASE
     }
-    TRANSFER_PHASE
-}
-
-// The phase of a download's recovery point d.
-fn download_point_phase(delivered: u64) -> u64
-    ensures { result ≡ download_point_phase delivered }
-{
-    if delivered == 1 {
-        return INITIALISATION_PHASE;
-    }
-    TRANSFER_PHASE
 }
 
 // The segment of n that a request asks for.
@@ -50,8 +41,7 @@ fn opened_reply(n: u64, transaction: Bits128, q: Fields) -> Fields
     ensures { result ≡ opened_reply (edition_of q) n transaction q }
 {
     let exchange = q.exchange();
-    let edition = edition_of(q);
-    match edition {
+    match edition_of(q) {
         Edition::V24 => chosen_opened(exchange, transaction),
         Edition::V25 => upload_opened(exchange, transaction, order_number_of(n)),
     }
@@ -64,9 +54,10 @@ fn upload_reply(action: UploadAction, transaction: Bits128, q: Fields) -> Fields
     let exchange = q.exchange();
     match action {
         UploadAction::Opened(n) => opened_reply(n, transaction, q),
-        UploadAction::Took => segment_taken(exchange, transaction, q.segment()),
-        UploadAction::TookLast => segment_taken(exchange, transaction, q.segment()),
-        UploadAction::Point(k) => recovery_point(upload_point_phase(k), exchange, transaction, k),
+        UploadAction::Took | UploadAction::TookLast => {
+            segment_taken(exchange, transaction, q.segment())
+        }
+        UploadAction::Point(k) => recovery_point(point_phase(k, 0), exchange, transaction, k),
         UploadAction::Cancelled(code) => refusal(q.phase(), exchange, code),
     }
 }
@@ -78,14 +69,10 @@ fn download_reply(action: DownloadAction, transaction: Bits128, q: Fields) -> Fi
     let exchange = q.exchange();
     match action {
         DownloadAction::Opened(n) => download_opened(exchange, n, transaction, last_mark_of(1, n)),
-        DownloadAction::Delivered(n) => segment_reply(n, transaction, q),
-        DownloadAction::SentAgain(n) => segment_reply(n, transaction, q),
-        DownloadAction::Point(d) => recovery_point(
-            download_point_phase(d),
-            exchange,
-            transaction,
-            d,
-        ),
+        DownloadAction::Delivered(n) | DownloadAction::SentAgain(n) => {
+            segment_reply(n, transaction, q)
+        }
+        DownloadAction::Point(d) => recovery_point(point_phase(d, 1), exchange, transaction, d),
         DownloadAction::Cancelled => refusal(q.phase(), exchange, ReturnCode::TransactionAbort),
         DownloadAction::Confirmed => {
             receipt_answered(exchange, transaction, ReturnCode::DownloadPostprocessDone)
@@ -100,16 +87,6 @@ fn download_reply(action: DownloadAction, transaction: Bits128, q: Fields) -> Fi
     }
 }
 
-// The reply to a request to a transaction.
-fn action_reply(action: Action, transaction: Bits128, q: Fields) -> Fields
-    ensures { result ≡ action_reply action transaction q }
-{
-    match action {
-        Action::Upload(a) => upload_reply(a, transaction, q),
-        Action::Download(a) => download_reply(a, transaction, q),
-    }
-}
-
 // The fields of the reply to the request q.
 pub fn reply_to(verdict: Verdict, q: Fields) -> Fields
     ensures { result ≡ reply_to verdict q }
@@ -117,8 +94,11 @@ pub fn reply_to(verdict: Verdict, q: Fields) -> Fields
     match verdict {
         Verdict::Unreadable => unreadable(),
         Verdict::Refused(code) => refusal(q.phase(), q.exchange(), code),
-        Verdict::Of(transaction, action) => action_reply(action, transaction, q),
-        Verdict::Signed(_, _) => refusal(q.phase(), q.exchange(), ReturnCode::Ok),
+        Verdict::Of(transaction, Action::Upload(action)) => upload_reply(action, transaction, q),
+        Verdict::Of(transaction, Action::Download(action)) => {
+            download_reply(action, transaction, q)
+        }
+        Verdict::Signed(..) => refusal(q.phase(), q.exchange(), ReturnCode::Ok),
     }
 }
 
@@ -128,22 +108,8 @@ fn download_segment_in(action: DownloadAction, q: Fields) -> u64
 {
     match action {
         DownloadAction::Opened(_) => 1,
-        DownloadAction::Delivered(_) => q.segment(),
-        DownloadAction::SentAgain(_) => q.segment(),
-        DownloadAction::Point(_) => 0,
-        DownloadAction::Cancelled => 0,
-        DownloadAction::Confirmed => 0,
-        DownloadAction::Declined => 0,
-    }
-}
-
-// The segment whose bytes a reply about a transaction carries; 0 where it carries none.
-fn action_segment_in(action: Action, q: Fields) -> u64
-    ensures { result ≡ action_segment_in action q }
-{
-    match action {
-        Action::Upload(_) => 0,
-        Action::Download(a) => download_segment_in(a, q),
+        DownloadAction::Delivered(_) | DownloadAction::SentAgain(_) => q.segment(),
+        _ => 0,
     }
 }
 
@@ -152,9 +118,7 @@ pub fn segment_in(verdict: Verdict, q: Fields) -> u64
     ensures { result ≡ segment_in verdict q }
 {
     match verdict {
-        Verdict::Unreadable => 0,
-        Verdict::Refused(_) => 0,
-        Verdict::Of(_, action) => action_segment_in(action, q),
-        Verdict::Signed(_, _) => 0,
+        Verdict::Of(_, Action::Download(action)) => download_segment_in(action, q),
+        _ => 0,
     }
 }

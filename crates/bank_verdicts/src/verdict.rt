@@ -1,27 +1,20 @@
 // The verdicts on a request. State, reply and history of a call are read off its verdict.
 ghost use Rattle.std.specs.Prelude.{◌≡◌};
-ghost use Rattle.bank_verdicts.specs.Judgement.{upload_number, opened_number};
+ghost use Rattle.bank_verdicts.specs.Judgement.{opened_number};
 
 use frame_table::fields::Bits128;
 use message::codes::ReturnCode;
 
 // What a request is judged with besides the bank: the lent ID bytes as a number, with which a transaction ID begins, and
 // what the other banks count of the open transactions that all share (document 02, card 13).
-#[derive(Clone, Copy)]
+#[derive(Clone, Copy, PartialEq, Eq)]
 pub struct Context {
     pub prefix: u64,
     pub others: u64,
 }
 
-// The direction of a transaction.
-#[derive(Clone, Copy)]
-pub enum Direction {
-    Upload,
-    Download,
-}
-
 // A request to a transaction, by its form.
-#[derive(Clone, Copy)]
+#[derive(Clone, Copy, PartialEq, Eq)]
 pub enum TransactionRequest {
     UploadTransfer,
     DownloadTransfer,
@@ -77,23 +70,11 @@ pub enum Verdict {
 }
 
 // The number of the upload that an action opens; 0 where it opens none.
-fn upload_number(action: UploadAction) -> u64
-    ensures { result ≡ upload_number action }
-{
-    match action {
-        UploadAction::Opened(n) => n,
-        UploadAction::Took => 0,
-        UploadAction::TookLast => 0,
-        UploadAction::Point(_) => 0,
-        UploadAction::Cancelled(_) => 0,
-    }
-}
-
 pub fn opened_number(action: Action) -> u64
     ensures { result ≡ opened_number action }
 {
     match action {
-        Action::Upload(a) => upload_number(a),
-        Action::Download(_) => 0,
+        Action::Upload(UploadAction::Opened(number)) => number,
+        _ => 0,
     }
 }

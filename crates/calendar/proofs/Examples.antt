@@ -1,5 +1,8 @@
 -- The card's example, its weekdays, the table's extremes, leap years, and the first and last times, computed.
 -- Assumes nothing.
+use Rattle.number_table.specs.Numbers.{number_ten}
+use Rattle.number_table.specs.declared.table.TooLate.{TooLate}
+use Rattle.std.specs.Prelude.{Err, Ok, Result}
 use Prim.Native.Nat.{ℕ, ◌+◌}
 use mathlib.Core.Bool.{Bool, true, ◌&&◌}
 use mathlib.Core.List.{List, [], ◌∷◌, map}
@@ -8,8 +11,6 @@ use native.Mathlib.Omega.{arith}
 use lib.Dec.{leb}
 use Rattle.octets.proofs.Tests.{every}
 use Rattle.calendar.specs.declared.dates.Date.{Date}
-use Rattle.calendar.specs.declared.value_day.ValueDay.{ValueDay}
-use Rattle.calendar.specs.declared.value_day.ValueDay.TheVariants as value
 use Rattle.calendar.specs.Dates.{is_leap, leap_day, year_days, month_days, total, day_number, next_date, date_of, date_at}
 use Rattle.calendar.specs.Dates.{first_year, year_count, last_day}
 use Rattle.calendar.specs.Easter.{letter_h, letter_l, letter_m, easter_sunday, easter_entry, easter_number}
@@ -18,11 +19,11 @@ use Rattle.calendar.specs.ValueDay.{first_day, execution_day, value_day}
 use Rattle.calendar.proofs.ExecutionDays.{last-date, last-business}
 use Rattle.calendar.proofs.ValueDays.{refused, given, own-day}
 
-abbrev on_day : ℕ → ℕ → ℕ → ValueDay
-on_day y m d = value.Day (date_at y m d)
+abbrev on_day : ℕ → ℕ → ℕ → Result Date TooLate
+on_day y m d = Ok (date_at y m d)
 
 -- booking times with their value days
-abbrev bookings : List (ℕ × ValueDay)
+abbrev bookings : List (ℕ × Result Date TooLate)
 bookings =
     -- "Thursday 28 March 2024 at 15:59:59.999 takes that day; at 16:00 it takes Tuesday 2 April."
     (1711641599999, on_day 2024 3 28)
@@ -41,15 +42,15 @@ all-bookings = refl
 
 -- the last time that is given a day, the first that is refused, and the largest of 64 bits
 last-time : value_day 7258089599999 ≡ on_day 2199 12 31
-last-time = given 7258089599999 (omega arith) ∙ ap value.Day (ap date_of last-day ∙ last-date)
+last-time = given 7258089599999 (omega arith) ∙ ap Ok (ap date_of last-day ∙ last-date)
   where
     last-day : execution_day 7258089599999 ≡ last_day
     last-day = own-day 7258089599999 (omega arith) last-business
 
-first-refused : value_day 7258089600000 ≡ value.TooLate
+first-refused : value_day 7258089600000 ≡ Err number_ten
 first-refused = refused 7258089600000 (omega arith)
 
-largest-time : value_day 18446744073709551615 ≡ value.TooLate
+largest-time : value_day 18446744073709551615 ≡ Err number_ten
 largest-time = refused 18446744073709551615 (omega arith)
 
 -- the card's weekdays, and that of the last day

@@ -79,18 +79,13 @@ last-date =
     })
     refl
 
-last-open : is_closed last_day ≡ false
+pub last-open : is_closed last_day ≡ false
 unfolding weekday_of is_on easter_number easter_sunday letter_h letter_l letter_m
     day_number total year_days month_days leap_day is_leap
 last-open = closed_on last_day (date_at 2199 12 31) last-date
 
 pub last-business : is_business_day last_day ≡ true
 last-business = open-business last_day last-open
-
--- a closed day lies before it
-pub before_last : (n : ℕ) → n ≤ last_day → is_closed n ≡ true → n < last_day
-before_last n h c =
-    let other : (n ≡ last_day → ⊥) = λ e. never (sym last-open ∙ (sym (ap is_closed e) ∙ c)) in omega arith
 
 -- the search from a day of the calendar ends in it
 pub found-by-last : (n : ℕ) → n ≤ last_day → business_day_from n ≤ last_day

@@ -1,5 +1,7 @@
 -- The value day: a business day, not before the booking's day, the first that it may take; never going back as time
 -- grows; and which times are refused. By the laws of the search, at business days. Assumes nothing.
+use Rattle.number_table.specs.Numbers.{number_ten}
+use Rattle.std.specs.Prelude.{Err, Ok}
 use Prim.Native.Nat.{ℕ, ◌+◌, ◌*◌, ◌/◌, ◌≤◌, ◌<◌}
 use mathlib.Core.Bool.{Bool, true, false}
 use mathlib.Core.Path.{◌≡◌, refl, sym, ap, ◌∙◌}
@@ -8,7 +10,6 @@ use lib.Dec.{ltb}
 use borrow.Author.Tests.{ltb-true, ltb-false, lt-ltb, le-ltb}
 use Rattle.octets.proofs.Tests.{never}
 use Rattle.calendar.specs.declared.dates.Date.{Date}
-use Rattle.calendar.specs.declared.value_day.ValueDay.TheVariants as value
 use Rattle.calendar.specs.Dates.{date_of, day_number, last_day, Valid}
 use Rattle.calendar.specs.BusinessDays.{longest_break, is_business_day, business_day_from}
 use Rattle.calendar.specs.ValueDay.{hour, day_length, cut_off, booking_day, time_of_day, first_day}
@@ -19,26 +20,26 @@ use Rattle.calendar.proofs.ExecutionDays.{NoneFrom, searched, business-found, fo
 
 -- ---- given or refused, by the first day
 
-late-day : (time : ℕ) → last_day < first_day time → value_day time ≡ value.TooLate
+late-day : (time : ℕ) → last_day < first_day time → value_day time ≡ Err number_ten
 unfolding value_day execution_day
 late-day time h =
     let from = (searched (first_day time)).from in rw (lt-ltb last_day (business_day_from (first_day time)) (omega arith))
 
-early-day : (time : ℕ) → first_day time ≤ last_day → value_day time ≡ value.Day (date_of (execution_day time))
+early-day : (time : ℕ) → first_day time ≤ last_day → value_day time ≡ Ok (date_of (execution_day time))
 unfolding value_day execution_day
 early-day time h =
     rw (le-ltb last_day (business_day_from (first_day time)) (found-by-last (first_day time) h))
 
 -- the same with the first day and the date as the code has them
-pub refused-from : (time n : ℕ) → n ≡ first_day time → last_day < n → answered value.TooLate ≡ value_day_call time
+pub refused-from : (time n : ℕ) → n ≡ first_day time → last_day < n → answered (Err number_ten) ≡ value_day_call time
 refused-from time n e h = ap answered (sym (late-day time (rw e at h)))
 
 pub given-from : (time n m : ℕ) (d : Date) → n ≡ first_day time → n ≤ last_day → m ≡ business_day_from n → d ≡ date_of m
-    → answered (value.Day d) ≡ value_day_call time
+    → answered (Ok d) ≡ value_day_call time
 unfolding execution_day
 given-from time n m d e h p q =
     let day : date_of m ≡ date_of (business_day_from (first_day time)) = rw (p, e) in
-    ap answered (ap value.Day (q ∙ day) ∙ sym (early-day time (rw e at h)))
+    ap answered (ap Ok (q ∙ day) ∙ sym (early-day time (rw e at h)))
 
 -- ---- the first day that a booking may take
 
@@ -61,11 +62,11 @@ abbrev pub first_refused : ℕ
 first_refused = 7258089600000
 
 -- from there on every time is refused
-pub refused : (time : ℕ) → first_refused ≤ time → value_day time ≡ value.TooLate
+pub refused : (time : ℕ) → first_refused ≤ time → value_day time ≡ Err number_ten
 refused time h = late-day time (let s = first-day-shifted time in omega arith)
 
 -- and none before
-pub given : (time : ℕ) → time < first_refused → value_day time ≡ value.Day (date_of (execution_day time))
+pub given : (time : ℕ) → time < first_refused → value_day time ≡ Ok (date_of (execution_day time))
 given time h = early-day time (let s = first-day-shifted time in omega arith)
 
 -- ---- the card's sentence
@@ -144,7 +145,7 @@ executed-at time h =
       last = omega arith;
     }
 
-executed-by : (time : ℕ) (d : Date) (t : Bool) → ltb last_day (first_day time) ≡ t → value_day time ≡ value.Day d
+executed-by : (time : ℕ) (d : Date) (t : Bool) → ltb last_day (first_day time) ≡ t → value_day time ≡ Ok d
     → Executed time d
 executed-by time d true e h =
     let late = late-day time (ltb-true last_day (first_day time) e) in
@@ -155,7 +156,7 @@ executed-by time d false e h =
     let day : d ≡ date_of (execution_day time) = cc in
     rw day (executed-at time first)
 
-pub executed : (time : ℕ) (d : Date) → value_day time ≡ value.Day d → Executed time d
+pub executed : (time : ℕ) (d : Date) → value_day time ≡ Ok d → Executed time d
 executed time d h = executed-by time d _ refl h
 
 -- ---- it never goes back
@@ -164,7 +165,7 @@ pub never_back : (t u : ℕ) → t ≤ u → execution_day t ≤ execution_day u
 unfolding execution_day
 never_back t u h = first-grows is_business_day longest_break (first_day t) (first_day u) (first-day-grows t u h)
 
-pub answers-in-order : (t u : ℕ) (d e : Date) → t ≤ u → value_day t ≡ value.Day d → value_day u ≡ value.Day e
+pub answers-in-order : (t u : ℕ) (d e : Date) → t ≤ u → value_day t ≡ Ok d → value_day u ≡ Ok e
     → day_number d ≤ day_number e
 answers-in-order t u d e h p q =
     let a = (executed t d p).number in

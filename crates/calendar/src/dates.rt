@@ -21,19 +21,11 @@ pub(crate) const LAST_DAY: u64 = 84005;
 const MONTH_STARTS: [u64; 13] = [0, 31, 59, 90, 120, 151, 181, 212, 243, 273, 304, 334, 365];
 
 // 1 in a leap year: every fourth year is one, of the full hundreds only every fourth.
+#[tactic(auto, unfolding(crate::specs::Dates::leap_day, crate::specs::Dates::is_leap))]
 fn leap_day(year: u64) -> u64
     ensures { result ≡ leap_day year }
 {
-    if year % 400 == 0 {
-        return 1;
-    }
-    if year % 100 == 0 {
-        return 0;
-    }
-    if year % 4 == 0 {
-        return 1;
-    }
-    0
+    u64::from(year % 4 == 0 && (year % 100 != 0 || year % 400 == 0))
 }
 
 // The days of the first so many years: 365 each, and their leap days.
@@ -59,11 +51,13 @@ pub(crate) fn month_start(year: u64, months: u64) -> u64
 {
     let days = common_start(months);
     if months < 2 {
-        return days;
+        days
+    } else {
+        days + leap_day(year)
     }
-    days + leap_day(year)
 }
 
+// This and `months_before` stay two: one function over where a year or a month starts would need a closure's clauses.
 // How many years lie before the day's: so many as of 366 days each, or one more, since most have 365.
 fn years_before(number: u64) -> u64
     requires { number ≤ last_day }
@@ -71,9 +65,10 @@ fn years_before(number: u64) -> u64
 {
     let years = number / 366;
     if year_start(years + 1) <= number {
-        return years + 1;
+        years + 1
+    } else {
+        years
     }
-    years
 }
 
 // How many months lie before a day of the year: so many as of 31 days each, or one more, since some are shorter.
@@ -83,9 +78,10 @@ fn months_before(year: u64, rest: u64) -> u64
 {
     let months = rest / 31;
     if month_start(year, months + 1) <= rest {
-        return months + 1;
+        months + 1
+    } else {
+        months
     }
-    months
 }
 
 // The date of the day of this number.
@@ -98,7 +94,7 @@ pub(crate) fn date_of(number: u64) -> Date
     let year = FIRST_YEAR + years;
     let months = months_before(year, rest);
     Date {
-        year: year,
+        year,
         month: months + 1,
         day: rest - month_start(year, months) + 1,
     }

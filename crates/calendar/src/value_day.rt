@@ -4,13 +4,7 @@ ghost use Rattle.calendar.specs.ValueDay.{first_day, answered, value_day_call};
 
 use crate::business_days::business_day_from;
 use crate::dates::{Date, LAST_DAY, date_of};
-
-// The value day; or number 10, where it would lie after 2199.
-#[derive(Clone, Copy)]
-pub enum ValueDay {
-    Day(Date),
-    TooLate,
-}
+use number_table::table::TooLate;
 
 // A day, and its part before 16:00:00.000, in milliseconds.
 const HOUR: u64 = 3_600_000;
@@ -20,22 +14,25 @@ const DAY_LENGTH: u64 = 24 * HOUR;
 const CUT_OFF: u64 = 16 * HOUR;
 
 // The first day that a booking may take: its own only before the cut-off.
+#[tactic(auto, unfolding(crate::specs::ValueDay::first_day))]
 fn first_day(time: u64) -> u64
     ensures { result ≡ first_day time }
 {
+    let day = time / DAY_LENGTH;
     if time % DAY_LENGTH < CUT_OFF {
-        return time / DAY_LENGTH;
+        day
+    } else {
+        day + 1
     }
-    time / DAY_LENGTH + 1
 }
 
 // The value day of an order booked at this time, in milliseconds since 1970 UTC.
-pub fn value_day(time: u64) -> ValueDay
+pub fn value_day(time: u64) -> Result<Date, TooLate>
     ensures { answered result ≡ value_day_call time }
 {
     let first = first_day(time);
     if LAST_DAY < first {
-        return ValueDay::TooLate;
+        return Err(TooLate);
     }
-    ValueDay::Day(date_of(business_day_from(first)))
+    Ok(date_of(business_day_from(first)))
 }

@@ -1,11 +1,11 @@
 -- A table of cases: rows of a call and what is due, and that what comes is what is due. What the rows' requests share.
+use Rattle.number_table.specs.declared.table.WrongLength.{WrongLength}
+use Rattle.std.specs.Prelude.{Err, Ok, Result}
 use Rattle.std.specs.Prelude.{ℕ, List, [], ◌∷◌, ◌≡◌, take}
 use Rattle.frame_table.specs.declared.fields.Bits128.{Bits128}
 use Rattle.frame_table.specs.declared.fields.Fields.{Fields}
 use Rattle.frame_reader.specs.Reader.{read_reply}
 use Rattle.message.specs.Codes.{ascii_digits}
-use Rattle.bank.specs.declared.call.FrameAnswer.{FrameAnswer}
-use Rattle.bank.specs.declared.call.FrameAnswer.TheVariants.{Reply, WrongLength}
 
 -- a row: a call, and what is due
 pub record Case (C A : Type 0) : Type 0 where
@@ -34,9 +34,9 @@ abbrev pub six : ℕ → ℕ
 six n = ascii_digits 6 n
 
 -- the reply in the buffer, none where the call was given a number, and its fields
-abbrev pub bytes_in : FrameAnswer → List ℕ → List ℕ
-bytes_in (Reply n) buffer = take n buffer
-bytes_in WrongLength buffer = []
+abbrev pub bytes_in : Result ℕ WrongLength → List ℕ → List ℕ
+bytes_in (Ok n) buffer = take n buffer
+bytes_in (Err e) buffer = []
 
-abbrev pub reply_in : FrameAnswer → List ℕ → Fields
+abbrev pub reply_in : Result ℕ WrongLength → List ℕ → Fields
 reply_in a buffer = read_reply (bytes_in a buffer)

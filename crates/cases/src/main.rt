@@ -6,31 +6,116 @@ use bank_rows::layout::STATE_SIZE;
 use bank_state::limits::{ID_BYTES, REPLY_ROOM, STORE_BYTES};
 use frame_table::fields::{Bits128, Fields};
 use frame_table::table::FRAME_LIMIT;
-use frame_writer::writer::{Written, write};
+use frame_writer::writer::write;
 use message::codes::{ReturnCode, code_field};
 use message::requests::{upload_opening, upload_transfer};
+use number_table::table::WrongLength;
 use octets::bytes::front;
 use print::text::code_digits;
 
 // The bank time of every call, and every timestamp.
 const CLOCK: u64 = 1000000;
 
-// A frame arrives: the return code of its reply, 0 where the call was given a number.
-fn send(frame: &[u8], rows: &mut [u64], orders: &mut [u8], mailboxes: &mut [u8]) -> u64 {
-    let ids = [0u8; ID_BYTES];
-    let mut buffer = [0u8; REPLY_ROOM];
-    let step = answer_frame(rows, CLOCK, &ids, frame, orders, mailboxes, &mut buffer);
-    let o = step.out;
-    o.code
+// The return codes in their order, with their names in Annex 1.
+const NAMES: [(ReturnCode, &str); 20] = [
+    (ReturnCode::Ok, "EBICS_OK"),
+    (
+        ReturnCode::DownloadPostprocessDone,
+        "EBICS_DOWNLOAD_POSTPROCESS_DONE",
+    ),
+    (
+        ReturnCode::DownloadPostprocessSkipped,
+        "EBICS_DOWNLOAD_POSTPROCESS_SKIPPED",
+    ),
+    (
+        ReturnCode::SegmentNumberUnderrun,
+        "EBICS_TX_SEGMENT_NUMBER_UNDERRUN",
+    ),
+    (ReturnCode::InvalidRequest, "EBICS_INVALID_REQUEST"),
+    (ReturnCode::InternalError, "EBICS_INTERNAL_ERROR"),
+    (ReturnCode::RecoverySync, "EBICS_TX_RECOVERY_SYNC"),
+    (
+        ReturnCode::NoDownloadDataAvailable,
+        "EBICS_NO_DOWNLOAD_DATA_AVAILABLE",
+    ),
+    (ReturnCode::UserUnknown, "EBICS_USER_UNKNOWN"),
+    (ReturnCode::InvalidOrderType, "EBICS_INVALID_ORDER_TYPE"),
+    (
+        ReturnCode::SegmentSizeExceeded,
+        "EBICS_SEGMENT_SIZE_EXCEEDED",
+    ),
+    (ReturnCode::InvalidXml, "EBICS_INVALID_XML"),
+    (ReturnCode::UnknownTransaction, "EBICS_TX_UNKNOWN_TXID"),
+    (ReturnCode::TransactionAbort, "EBICS_TX_ABORT"),
+    (ReturnCode::MessageReplay, "EBICS_TX_MESSAGE_REPLAY"),
+    (
+        ReturnCode::SegmentNumberExceeded,
+        "EBICS_TX_SEGMENT_NUMBER_EXCEEDED",
+    ),
+    (ReturnCode::OrderIdUnknown, "EBICS_ORDERID_UNKNOWN"),
+    (
+        ReturnCode::OrderIdAlreadyExists,
+        "EBICS_ORDERID_ALREADY_EXISTS",
+    ),
+    (
+        ReturnCode::MaxSegmentsExceeded,
+        "EBICS_MAX_SEGMENTS_EXCEEDED",
+    ),
+    (
+        ReturnCode::MaxTransactionsExceeded,
+        "EBICS_MAX_TRANSACTIONS_EXCEEDED",
+    ),
+];
+
+// A bank's memory.
+#[derive(Drop)]
+struct Bank {
+    rows: [u64; STATE_SIZE],
+    orders: [u8; STORE_BYTES],
+    mailboxes: [u8; STORE_BYTES],
 }
 
-// A request arrives: the return code of its reply, 0 where it could not be written.
-fn ask(q: Fields, bytes: &[u8], rows: &mut [u64], orders: &mut [u8], mailboxes: &mut [u8]) -> u64 {
-    let mut frame = [0u8; FRAME_LIMIT];
-    let written = write(q, bytes, &mut frame);
-    match written {
-        Written::Length(n) => send(front(&frame, n), rows, orders, mailboxes),
-        Written::Refused => 0,
+impl Bank {
+    // The memory of a fresh bank.
+    fn fresh() -> Self {
+        Bank {
+            rows: [0; STATE_SIZE],
+            orders: [0; STORE_BYTES],
+            mailboxes: [0; STORE_BYTES],
+        }
+    }
+
+    // A frame arrives: the return code of its reply, 0 where the call was given a number.
+    fn send(&mut self, frame: &[u8]) -> u64 {
+        let ids = [0u8; ID_BYTES];
+        let mut buffer = [0u8; REPLY_ROOM];
+        let step = answer_frame(
+            &mut self.rows,
+            CLOCK,
+            &ids,
+            frame,
+            &mut self.orders,
+            &mut self.mailboxes,
+            &mut buffer,
+        );
+        step.out.code
+    }
+
+    // A request arrives: the return code of its reply, 0 where it could not be written.
+    fn ask(&mut self, q: Fields, bytes: &[u8]) -> u64 {
+        let mut frame = [0u8; FRAME_LIMIT];
+        match write(q, bytes, &mut frame) {
+            Ok(n) => self.send(front(&frame, n)),
+            Err(WrongLength) => 0,
+        }
+    }
+
+    // A line: what is sent, and the code that came.
+    fn print_case(&mut self, rt: &impl Print, sent: &str, q: Fields, bytes: &[u8]) {
+        let code = self.ask(q, bytes);
+        let _ = print!(rt; "{sent} ");
+        let _ = rt.write_all(&code_digits(code));
+        let _ = println!(rt; "");
     }
 }
 
@@ -44,144 +129,24 @@ fn segment(s: u64) -> Fields {
     upload_transfer(1, 1, Bits128 { high: 0, low: 0 }, s, 0)
 }
 
-// A line: what is sent, and the code that came.
-fn print_case(rt: &impl Print, sent: &[u8], code: u64) {
-    let _ = rt.write_all(sent);
-    let _ = rt.write_all(&code_digits(code));
-    let _ = rt.write_all(b"\n");
-}
-
 // 31 and 32 segments, and 256 and 257 data bytes.
 fn print_cases(rt: &impl Print) {
-    let mut rows = [0u64; STATE_SIZE];
-    let mut orders = [0u8; STORE_BYTES];
-    let mut mailboxes = [0u8; STORE_BYTES];
-    let nothing = [0u8; 0];
-    let a = ask(
-        opening(31),
-        &nothing,
-        &mut rows,
-        &mut orders,
-        &mut mailboxes,
-    );
-    print_case(rt, b"31 segments ", a);
-    let b = ask(
-        opening(32),
-        &nothing,
-        &mut rows,
-        &mut orders,
-        &mut mailboxes,
-    );
-    print_case(rt, b"32 segments ", b);
-    let c = ask(
-        segment(1),
-        &[7u8; 256],
-        &mut rows,
-        &mut orders,
-        &mut mailboxes,
-    );
-    print_case(rt, b"256 data bytes ", c);
-    let d = ask(
-        segment(2),
-        &[7u8; 257],
-        &mut rows,
-        &mut orders,
-        &mut mailboxes,
-    );
-    print_case(rt, b"257 data bytes ", d);
+    let mut bank = Bank::fresh();
+    bank.print_case(rt, "31 segments", opening(31), &[]);
+    bank.print_case(rt, "32 segments", opening(32), &[]);
+    bank.print_case(rt, "256 data bytes", segment(1), &[7; 256]);
+    bank.print_case(rt, "257 data bytes", segment(2), &[7; 257]);
 }
 
-// A line: the code's six digits, and its name in Annex 1.
-fn print_code(rt: &impl Print, code: ReturnCode, name: &[u8]) {
-    let _ = rt.write_all(&code_digits(code_field(code)));
-    let _ = rt.write_all(b" ");
-    let _ = rt.write_all(name);
-}
-
-// The codes from 000000 to 011101.
-fn print_codes_01(rt: &impl Print) {
-    print_code(rt, ReturnCode::Ok, b"EBICS_OK\n");
-    print_code(
-        rt,
-        ReturnCode::DownloadPostprocessDone,
-        b"EBICS_DOWNLOAD_POSTPROCESS_DONE\n",
-    );
-    print_code(
-        rt,
-        ReturnCode::DownloadPostprocessSkipped,
-        b"EBICS_DOWNLOAD_POSTPROCESS_SKIPPED\n",
-    );
-    print_code(
-        rt,
-        ReturnCode::SegmentNumberUnderrun,
-        b"EBICS_TX_SEGMENT_NUMBER_UNDERRUN\n",
-    );
-}
-
-// The codes from 061002 to 061101.
-fn print_codes_06(rt: &impl Print) {
-    print_code(rt, ReturnCode::InvalidRequest, b"EBICS_INVALID_REQUEST\n");
-    print_code(rt, ReturnCode::InternalError, b"EBICS_INTERNAL_ERROR\n");
-    print_code(rt, ReturnCode::RecoverySync, b"EBICS_TX_RECOVERY_SYNC\n");
-}
-
-// The codes from 090005 to 091010.
-fn print_codes_09(rt: &impl Print) {
-    print_code(
-        rt,
-        ReturnCode::NoDownloadDataAvailable,
-        b"EBICS_NO_DOWNLOAD_DATA_AVAILABLE\n",
-    );
-    print_code(rt, ReturnCode::UserUnknown, b"EBICS_USER_UNKNOWN\n");
-    print_code(
-        rt,
-        ReturnCode::InvalidOrderType,
-        b"EBICS_INVALID_ORDER_TYPE\n",
-    );
-    print_code(
-        rt,
-        ReturnCode::SegmentSizeExceeded,
-        b"EBICS_SEGMENT_SIZE_EXCEEDED\n",
-    );
-    print_code(rt, ReturnCode::InvalidXml, b"EBICS_INVALID_XML\n");
-}
-
-// The codes from 091101 on.
-fn print_codes_091(rt: &impl Print) {
-    print_code(
-        rt,
-        ReturnCode::UnknownTransaction,
-        b"EBICS_TX_UNKNOWN_TXID\n",
-    );
-    print_code(rt, ReturnCode::TransactionAbort, b"EBICS_TX_ABORT\n");
-    print_code(rt, ReturnCode::MessageReplay, b"EBICS_TX_MESSAGE_REPLAY\n");
-    print_code(
-        rt,
-        ReturnCode::SegmentNumberExceeded,
-        b"EBICS_TX_SEGMENT_NUMBER_EXCEEDED\n",
-    );
-    print_code(rt, ReturnCode::OrderIdUnknown, b"EBICS_ORDERID_UNKNOWN\n");
-    print_code(
-        rt,
-        ReturnCode::OrderIdAlreadyExists,
-        b"EBICS_ORDERID_ALREADY_EXISTS\n",
-    );
-    print_code(
-        rt,
-        ReturnCode::MaxSegmentsExceeded,
-        b"EBICS_MAX_SEGMENTS_EXCEEDED\n",
-    );
-    print_code(
-        rt,
-        ReturnCode::MaxTransactionsExceeded,
-        b"EBICS_MAX_TRANSACTIONS_EXCEEDED\n",
-    );
+// A line for each return code: its six digits, and its name.
+fn print_codes(rt: &impl Print) {
+    for (code, name) in NAMES {
+        let _ = rt.write_all(&code_digits(code_field(code)));
+        let _ = println!(rt; " {name}");
+    }
 }
 
 fn main(rt: HostRuntime) {
     print_cases(&rt);
-    print_codes_01(&rt);
-    print_codes_06(&rt);
-    print_codes_09(&rt);
-    print_codes_091(&rt);
+    print_codes(&rt);
 }

@@ -20,20 +20,21 @@ use Rattle.client_run.specs.declared.run.Stage.TheVariants as stage
 use Rattle.client_run.specs.declared.run.Word.{Word}
 use Rattle.client_run.specs.declared.run.Word.TheVariants as word
 use Rattle.client_run.specs.NextRun.{ended}
-use Rattle.client.specs.declared.journal_call.JournalAnswer.{JournalAnswer}
-use Rattle.client.specs.declared.journal_call.JournalAnswer.TheVariants as answer
+use Rattle.number_table.specs.declared.table.WrongLength.{WrongLength}
+use Rattle.number_table.specs.Numbers.{number_one}
+use Rattle.std.specs.Prelude.{Result, Ok, Err, Option, Some, None}
 use Rattle.client.specs.Journal.{JournalCall, journal_left, is_unclear, ended_unclear, answer_on, answer_to, answered}
 use Rattle.client.specs.Journal.{journal_call}
 
 -- why a call leaves what it leaves
 pub data JournalCause (c : ClientRun) (row : List Event) : JournalCall → Type 0 where
-  wrong-length : (length row ≡ record_count → ⊥) → JournalCause c row (journal_left c answer.WrongLength)
-  not-unclear : (c.stage ≡ stage.Ended word.Unclear → ⊥) → JournalCause c row (journal_left c answer.Unchanged)
-  nothing : lookup c.transaction row ≡ found.Nothing → JournalCause c row (journal_left c answer.Unchanged)
+  wrong-length : (length row ≡ record_count → ⊥) → JournalCause c row (journal_left c (Err number_one))
+  not-unclear : (c.stage ≡ stage.Ended word.Unclear → ⊥) → JournalCause c row (journal_left c (Ok None))
+  nothing : lookup c.transaction row ≡ found.Nothing → JournalCause c row (journal_left c (Ok None))
   booked : c.stage ≡ stage.Ended word.Unclear → length row ≡ record_count → lookup c.transaction row ≡ found.Booked
-      → JournalCause c row (journal_left (ended word.Lodged c) (answer.Closed word.Lodged))
+      → JournalCause c row (journal_left (ended word.Lodged c) (Ok (Some word.Lodged)))
   ended_so : c.stage ≡ stage.Ended word.Unclear → length row ≡ record_count → lookup c.transaction row ≡ found.Ended
-      → JournalCause c row (journal_left (ended word.NotLodged c) (answer.Closed word.NotLodged))
+      → JournalCause c row (journal_left (ended word.NotLodged c) (Ok (Some word.NotLodged)))
 
 -- no run but an unclear one is given what the journal says
 unclear-word : (w : Word) → is_unclear w ≡ true → w ≡ word.Unclear
@@ -62,7 +63,7 @@ module _ (c : ClientRun) (row : List Event) where
 
   cause-by : (t u : Bool) → eqb (length row) record_count ≡ t → ended_unclear c.stage ≡ u
       → JournalCause c row
-      (answered (cond t (cond u (answer_on (lookup c.transaction row)) answer.Unchanged) answer.WrongLength) c)
+      (answered (cond t (cond u (answer_on (lookup c.transaction row)) (Ok None)) (Err number_one)) c)
   cause-by false u l s = wrong-length (eqb-false (length row) record_count l)
   cause-by true false l s = not-unclear (not-ended-unclear c.stage s)
   cause-by true true l s =
@@ -95,15 +96,15 @@ module _ (c : ClientRun) (row : List Event) where
   stays-unclear n = stays_by (journal_call c row) journal-cause n
 
   -- what a closing word says of the row
-  abbrev Says : JournalAnswer → Type 0
-  Says (answer.Closed word.Lodged) = lookup c.transaction row ≡ found.Booked
-  Says (answer.Closed word.NotLodged) = lookup c.transaction row ≡ found.Ended
-  Says (answer.Closed word.Unclear) = ⊥
-  Says (answer.Closed word.Fetched) = ⊥
-  Says (answer.Closed word.HeldUnconfirmed) = ⊥
-  Says (answer.Closed word.NotFetched) = ⊥
-  Says answer.Unchanged = Unit {0}
-  Says answer.WrongLength = Unit {0}
+  abbrev Says : Result (Option Word) WrongLength → Type 0
+  Says (Ok (Some word.Lodged)) = lookup c.transaction row ≡ found.Booked
+  Says (Ok (Some word.NotLodged)) = lookup c.transaction row ≡ found.Ended
+  Says (Ok (Some word.Unclear)) = ⊥
+  Says (Ok (Some word.Fetched)) = ⊥
+  Says (Ok (Some word.HeldUnconfirmed)) = ⊥
+  Says (Ok (Some word.NotFetched)) = ⊥
+  Says (Ok None) = Unit {0}
+  Says (Err e) = Unit {0}
 
   says-by : (j : JournalCall) → JournalCause c row j → Says j.answer
   says-by j (wrong-length l) = tt
@@ -112,14 +113,14 @@ module _ (c : ClientRun) (row : List Event) where
   says-by j (booked u l e) = e
   says-by j (ended_so u l e) = e
 
-  says : (a : JournalAnswer) → (journal_call c row).answer ≡ a → Says a
+  says : (a : Result (Option Word) WrongLength) → (journal_call c row).answer ≡ a → Says a
   says a e = subst Says e (says-by (journal_call c row) journal-cause)
 
-  pub lodged-booked : (journal_call c row).answer ≡ answer.Closed word.Lodged → lookup c.transaction row ≡ found.Booked
-  lodged-booked e = says (answer.Closed word.Lodged) e
+  pub lodged-booked : (journal_call c row).answer ≡ Ok (Some word.Lodged) → lookup c.transaction row ≡ found.Booked
+  lodged-booked e = says (Ok (Some word.Lodged)) e
 
-  pub not-lodged-ended : (journal_call c row).answer ≡ answer.Closed word.NotLodged → lookup c.transaction row ≡ found.Ended
-  not-lodged-ended e = says (answer.Closed word.NotLodged) e
+  pub not-lodged-ended : (journal_call c row).answer ≡ Ok (Some word.NotLodged) → lookup c.transaction row ≡ found.Ended
+  not-lodged-ended e = says (Ok (Some word.NotLodged)) e
 
   -- "never gets number 8"
   number_by_lem : (j : JournalCall) → JournalCause c row j → (j.number ≡ 0) ⊎ (j.number ≡ 1)

@@ -1,13 +1,13 @@
 -- Card 3: "Values over 253,402,300,799,999 ... as bank or client time number 1". Begin, reply and no reply are given it
 -- before 5 to 8, whatever the run and whatever else is lent, and change nothing. Assumes nothing.
+use Rattle.client_run.specs.declared.run.Refusal.{Refusal}
+use Rattle.std.specs.Prelude.{Err, Result}
 use Prim.Native.Nat.{ℕ, ◌<◌}
 use mathlib.Core.List.{List}
 use mathlib.Core.Path.{◌≡◌, refl}
 use Rattle.frame_table.specs.Table.{last_time}
 use Rattle.client_run.specs.declared.run.ClientRun.{ClientRun}
 use Rattle.client_run.specs.declared.run.Refusal.TheVariants.{TimeTooHigh}
-use Rattle.client_run.specs.declared.run.Ruling.{Ruling}
-use Rattle.client_run.specs.declared.run.Ruling.TheVariants.{Refuse}
 use Rattle.client_run.specs.declared.run.RunParameters.{RunParameters}
 use Rattle.client_run.specs.Run.{Lent, ClientCall, lengths_of}
 use Rattle.client_rules.proofs.Late as rules
@@ -29,7 +29,7 @@ pub record NumberOne (c : ClientRun) (l : Lent) (k : ClientCall) : Type 0 where
   pub request : k.request ≡ l.request
 
 module _ (c : ClientRun) (l : Lent) (h : last_time < l.time) where
-  ruled-late : (u : Ruling) (done : ClientCall) → u ≡ Refuse TimeTooHigh → NumberOne c l (if_admitted u c l done)
+  ruled-late : (u : Result (Unit {0}) Refusal) (done : ClientCall) → u ≡ Err TimeTooHigh → NumberOne c l (if_admitted u c l done)
   ruled-late u done e = rw e (record { number = refl; run = refl; file = refl; request = refl })
 
   pub begin-late : (params : RunParameters) → NumberOne c l (begin_call c params l)

@@ -1,8 +1,8 @@
 -- "begin, reply arrived, no reply": what each call leaves.
+use Rattle.number_table.specs.declared.table.WrongLength.{WrongLength}
+use Rattle.std.specs.Prelude.{Err, Ok, Result}
 use Rattle.std.specs.Prelude.{ℕ, ◌+◌, List, [], length}
 use Rattle.frame_table.specs.declared.fields.Fields.{Fields}
-use Rattle.frame_writer.specs.declared.writer.Written.{Written}
-use Rattle.frame_writer.specs.declared.writer.Written.TheVariants as written
 use Rattle.frame_reader.specs.Reader.{read_reply}
 use Rattle.frame_table.specs.Names.{no_fields}
 use Rattle.frame_row.specs.Row.{data_of}
@@ -14,8 +14,6 @@ use Rattle.client_run.specs.declared.run.Decision.{Decision}
 use Rattle.client_run.specs.declared.run.Decision.TheVariants.{Ignore, Opened, Advance, Return, Repeat, Close}
 use Rattle.client_run.specs.declared.run.Refusal.{Refusal}
 use Rattle.client_run.specs.declared.run.Refusal.TheVariants.{WrongBuffer}
-use Rattle.client_run.specs.declared.run.Ruling.{Ruling}
-use Rattle.client_run.specs.declared.run.Ruling.TheVariants.{Refuse, Accept}
 use Rattle.client_run.specs.declared.run.RunParameters.{RunParameters}
 use Rattle.client_run.specs.NextRun.{begin_length, begun, go_on, repeated, learned, holding, file_with, ended}
 use Rattle.client_run.specs.Requests.{outstanding, outstanding_data}
@@ -30,7 +28,7 @@ abbrev pub new_client : Client
 new_client = record { run = not_begun }
 
 -- what a call returns, by the next run and the answer
-abbrev pub outcome : ClientRun → Answer → Outcome
+abbrev pub outcome : ClientRun → Result Answer Refusal → Outcome
 outcome next a = record { client = record { run = next }; answer = a }
 
 -- what a call leaves, from what it returns and the two buffers
@@ -44,17 +42,17 @@ call_of o file request = record {
 }
 
 -- what is left where the request is written, and where it is not
-abbrev pub if_written : {A : Type 0} → Written → A → A → A
-if_written (written.Length n) a b = a
-if_written written.Refused a b = b
+abbrev pub if_written : {A : Type 0} → Result ℕ WrongLength → A → A → A
+if_written (Ok n) a b = a
+if_written (Err e) a b = b
 
 -- the next run with its request; a request that the writer refuses, which no run from a begin has, is number 5
-abbrev pub outcome_of : Written → ClientRun → ClientRun → Outcome
-outcome_of (written.Length n) c next = outcome next (answer.Request n)
-outcome_of written.Refused c next = outcome c (answer.Refused WrongBuffer)
+abbrev pub outcome_of : Result ℕ WrongLength → ClientRun → ClientRun → Outcome
+outcome_of (Ok n) c next = outcome next (Ok (answer.Request n))
+outcome_of (Err e) c next = outcome c (Err WrongBuffer)
 
 -- whether the outstanding request of the next run is written
-unfoldable pub is_written : ClientRun → Lent → Written
+unfoldable pub is_written : ClientRun → Lent → Result ℕ WrongLength
 is_written next l = write_answer (outstanding next l.time l.nonce) (outstanding_data next l.payload) l.request
 
 -- the request buffer then
@@ -77,21 +75,21 @@ unchanged o l = call_of o l.file l.request
 
 -- *The client's owner* "(nothing changed)"
 abbrev pub refused : Refusal → ClientRun → Lent → ClientCall
-refused r c l = unchanged (outcome c (answer.Refused r)) l
+refused r c l = unchanged (outcome c (Err r)) l
 
 -- what a decision makes of the run and the buffers; r and d are the reply's fields and data
 abbrev pub carry_out : Decision → ClientRun → Fields → List ℕ → Lent → ClientCall
-carry_out Ignore c r d l = unchanged (outcome c answer.Ignored) l
+carry_out Ignore c r d l = unchanged (outcome c (Ok answer.Ignored)) l
 carry_out Opened c r d l = taken c (learned c.direction r c) d l
 carry_out Advance c r d l = taken c c d l
 carry_out (Return s) c r d l = issued c (go_on s (c.repeats + 1) c) l.file l
 carry_out Repeat c r d l = issued c (repeated c) l.file l
-carry_out (Close w) c r d l = unchanged (outcome (ended w c) (answer.Closed w)) l
+carry_out (Close w) c r d l = unchanged (outcome (ended w c) (Ok (answer.Closed w))) l
 
 -- numbers 1 and 5 to 8 first: a call that is given one changes nothing, an admitted one is carried out
-abbrev pub if_admitted : Ruling → ClientRun → Lent → ClientCall → ClientCall
-if_admitted (Refuse x) c l done = refused x c l
-if_admitted Accept c l done = done
+abbrev pub if_admitted : Result (Unit {0}) Refusal → ClientRun → Lent → ClientCall → ClientCall
+if_admitted (Err x) c l done = refused x c l
+if_admitted (Ok u) c l done = done
 
 -- begin
 abbrev pub admitted_begin : ClientRun → RunParameters → Lent → ClientCall

@@ -12,24 +12,25 @@ use Rattle.client_run.specs.declared.run.Stage.TheVariants as stage
 use Rattle.client_run.specs.declared.run.Word.{Word}
 use Rattle.client_run.specs.declared.run.Word.TheVariants as word
 use Rattle.client_run.specs.NextRun.{ended}
-use Rattle.client.specs.declared.journal_call.JournalAnswer.{JournalAnswer}
-use Rattle.client.specs.declared.journal_call.JournalAnswer.TheVariants as answer
+use Rattle.number_table.specs.declared.table.WrongLength.{WrongLength}
+use Rattle.number_table.specs.Numbers.{number_one}
+use Rattle.std.specs.Prelude.{Result, Ok, Err, Option, Some, None}
 use Rattle.client.specs.declared.journal_call.JournalOutcome.{JournalOutcome}
 
 -- what the call leaves: the next run, the answer, and document 01's number for it
 pub record JournalCall : Type 0 where
   pub run : ClientRun
-  pub answer : JournalAnswer
+  pub answer : Result (Option Word) WrongLength
   pub number : ℕ
 
 -- "never gets number 8": its only number is 1
-abbrev pub journal_number : JournalAnswer → ℕ
-journal_number (answer.Closed w) = 0
-journal_number answer.Unchanged = 0
-journal_number answer.WrongLength = numbers.wrong_length
+abbrev pub journal_number : Result (Option Word) WrongLength → ℕ
+journal_number (Ok (Some w)) = 0
+journal_number (Ok None) = 0
+journal_number (Err e) = numbers.wrong_length
 
 -- what the call leaves, by the next run and the answer
-abbrev pub journal_left : ClientRun → JournalAnswer → JournalCall
+abbrev pub journal_left : ClientRun → Result (Option Word) WrongLength → JournalCall
 journal_left c a = record { run = c; answer = a; number = journal_number a }
 
 -- what the call leaves, from what it returns
@@ -51,24 +52,24 @@ ended_unclear stage.Running = false
 ended_unclear (stage.Ended w) = is_unclear w
 
 -- "a booking ... makes it lodged, a cancellation or drop makes it not lodged, otherwise it stays unclear"
-abbrev pub answer_on : Found → JournalAnswer
-answer_on found.Booked = answer.Closed word.Lodged
-answer_on found.Ended = answer.Closed word.NotLodged
-answer_on found.Nothing = answer.Unchanged
+abbrev pub answer_on : Found → Result (Option Word) WrongLength
+answer_on found.Booked = Ok (Some word.Lodged)
+answer_on found.Ended = Ok (Some word.NotLodged)
+answer_on found.Nothing = Ok None
 
 -- the answer to a run, where a row of so many records says this of its upload: another length is number 1, and "other
 -- runs come back unchanged"
-unfoldable pub answer_to : Stage → ℕ → Found → JournalAnswer
+unfoldable pub answer_to : Stage → ℕ → Found → Result (Option Word) WrongLength
 answer_to s records f =
-    cond (eqb records record_count) (cond (ended_unclear s) (answer_on f) answer.Unchanged) answer.WrongLength
+    cond (eqb records record_count) (cond (ended_unclear s) (answer_on f) (Ok None)) (Err number_one)
 
 -- the run after the answer
-abbrev pub run_after : JournalAnswer → ClientRun → ClientRun
-run_after (answer.Closed w) c = ended w c
-run_after answer.Unchanged c = c
-run_after answer.WrongLength c = c
+abbrev pub run_after : Result (Option Word) WrongLength → ClientRun → ClientRun
+run_after (Ok (Some w)) c = ended w c
+run_after (Ok None) c = c
+run_after (Err e) c = c
 
-abbrev pub answered : JournalAnswer → ClientRun → JournalCall
+abbrev pub answered : Result (Option Word) WrongLength → ClientRun → JournalCall
 answered a c = journal_left (run_after a c) a
 
 -- a row of so many records says this of the run's upload

@@ -1,6 +1,8 @@
 -- Document 01, "The client's owner" and "The client run", as rows: the numbers in their order and at their limits, what
 -- fits each step and what does not, the closing words, and card 11's editions. The calls are `begin_call`, `reply_call`,
 -- `no_reply_call` and `journal_call`. Digits stand here as in the paper.
+use Rattle.std.specs.Prelude.{Result, Ok, Err}
+use Rattle.client_run.specs.declared.run.Refusal.{Refusal}
 use Rattle.std.specs.Prelude.{ℕ, List, [], ◌∷◌, ◌++◌, replicate, take}
 use Rattle.frame_table.specs.declared.fields.Fields.{Fields}
 use Rattle.frame_table.specs.Names.{phase, segment, order_number, no_fields, with, with_wide}
@@ -27,8 +29,8 @@ use Rattle.journal.specs.Events.{no_event}
 use Rattle.client_run.specs.declared.run.Answer.{Answer}
 use Rattle.client_run.specs.declared.run.Answer.TheVariants as answer
 use Rattle.client_run.specs.declared.run.ClientRun.{ClientRun}
-use Rattle.client_run.specs.declared.run.Direction.{Direction}
-use Rattle.client_run.specs.declared.run.Direction.TheVariants.{Upload, Download}
+use Rattle.message.specs.declared.directions.Direction.{Direction}
+use Rattle.message.specs.declared.directions.Direction.TheVariants.{Upload, Download}
 use Rattle.client_run.specs.declared.run.RunTerms.{RunTerms}
 use Rattle.client_run.specs.declared.run.Word.{Word}
 use Rattle.client_run.specs.declared.run.Word.TheVariants.{
@@ -80,17 +82,17 @@ pub data Outcome : Type 0 where
   gets : ℕ → Outcome
 
 -- the request is read from the buffer that it was written to
-abbrev pub outcome_by : Answer → ClientCall → Outcome
-outcome_by (answer.Request n) c = let q = read_request (take n c.request) in issues (phase q) (segment q)
-outcome_by answer.Ignored c = ignores
-outcome_by (answer.Closed w) c = closes w
-outcome_by (answer.Refused r) c = gets c.number
+abbrev pub outcome_by : Result Answer Refusal → ClientCall → Outcome
+outcome_by (Ok (answer.Request n)) c = let q = read_request (take n c.request) in issues (phase q) (segment q)
+outcome_by (Ok answer.Ignored) c = ignores
+outcome_by (Ok (answer.Closed w)) c = closes w
+outcome_by (Err r) c = gets c.number
 
-abbrev pub number_in : Answer → ClientCall → ℕ
-number_in (answer.Request n) c = order_number (read_request (take n c.request))
-number_in answer.Ignored c = 0
-number_in (answer.Closed w) c = 0
-number_in (answer.Refused r) c = 0
+abbrev pub number_in : Result Answer Refusal → ClientCall → ℕ
+number_in (Ok (answer.Request n)) c = order_number (read_request (take n c.request))
+number_in (Ok answer.Ignored) c = 0
+number_in (Ok (answer.Closed w)) c = 0
+number_in (Err r) c = 0
 
 abbrev pub outcome_of : ClientCall → Outcome
 outcome_of c = outcome_by c.answer c

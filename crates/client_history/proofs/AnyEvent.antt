@@ -1,5 +1,7 @@
 -- What any event, fair or not, makes of a run and its issues: nothing, a begin, the next request issued, or the run's
 -- end. Assumes nothing.
+use Rattle.client_run.specs.declared.run.Refusal.{Refusal}
+use Rattle.std.specs.Prelude.{Err, Ok, Result}
 use Prim.Native.Nat.{ℕ}
 use mathlib.Core.List.{List, [], ◌∷◌}
 use mathlib.Core.Path.{◌≡◌, refl}
@@ -11,8 +13,6 @@ use Rattle.frame_row.specs.Row.{data_of}
 use Rattle.client_run.specs.declared.run.ClientRun.{ClientRun}
 use Rattle.client_run.specs.declared.run.Decision.{Decision}
 use Rattle.client_run.specs.declared.run.Decision.TheVariants.{Ignore, Opened, Advance, Return, Repeat, Close}
-use Rattle.client_run.specs.declared.run.Ruling.{Ruling}
-use Rattle.client_run.specs.declared.run.Ruling.TheVariants.{Refuse, Accept}
 use Rattle.client_run.specs.declared.run.RunParameters.{RunParameters}
 use Rattle.client_run.specs.declared.run.Word.{Word}
 use Rattle.client.specs.Calls.{
@@ -85,10 +85,10 @@ module _ (Read : Fields → Type 0) (p : Past) where
         (goes Repeat r d l _ a tt k read)
     carried (Close w) k = closes w l a
 
-  ruled : (l : Lent) (k : ClientCall) (u : Ruling) → (u ≡ Accept → Changed (left k.answer k l p))
+  ruled : (l : Lent) (k : ClientCall) (u : Result (Unit {0}) Refusal) → (u ≡ Ok tt → Changed (left k.answer k l p))
       → let o = if_admitted u p.run l k in Changed (left o.answer o l p)
-  ruled l k (Refuse x) f = nothing
-  ruled l k Accept f = f refl
+  ruled l k (Err x) f = nothing
+  ruled l k (Ok u) f = f refl
 
   pub any-change : (e : Event) → Reads Read e → Changed (after e p)
   unfolding after begin_call reply_call no_reply_call

@@ -1,12 +1,13 @@
 -- What a fair event makes of a past: nothing, a begin, the next request issued, or the run's end. Assumes nothing.
+use Rattle.client_run.specs.declared.run.Refusal.{Refusal}
+use Rattle.number_table.specs.declared.table.WrongLength.{WrongLength}
+use Rattle.std.specs.Prelude.{Err, Ok, Result}
 use Prim.Native.Nat.{ℕ, ◌+◌}
 use mathlib.Core.Bool.{true}
 use mathlib.Core.List.{List, [], Memᴰ as In}
 use mathlib.Core.Path.{◌≡◌, refl, sym, subst}
 use lib.ListN.{length}
 use Rattle.frame_table.specs.declared.fields.Fields.{Fields}
-use Rattle.frame_writer.specs.declared.writer.Written.{Written}
-use Rattle.frame_writer.specs.declared.writer.Written.TheVariants as written
 use Rattle.frame_table.specs.Names.{segment}
 use Rattle.frame_reader.specs.Reader.{read_reply}
 use Rattle.frame_table.specs.Names.{no_fields}
@@ -17,10 +18,8 @@ use Rattle.client_run.specs.declared.run.Answer.{Answer}
 use Rattle.client_run.specs.declared.run.Answer.TheVariants as answer
 use Rattle.client_run.specs.declared.run.ClientRun.{ClientRun}
 use Rattle.client_run.specs.declared.run.Decision.{Decision}
-use Rattle.client_run.specs.declared.run.Direction.{Direction}
-use Rattle.client_run.specs.declared.run.Direction.TheVariants.{Upload, Download}
-use Rattle.client_run.specs.declared.run.Ruling.{Ruling}
-use Rattle.client_run.specs.declared.run.Ruling.TheVariants.{Refuse, Accept}
+use Rattle.message.specs.declared.directions.Direction.{Direction}
+use Rattle.message.specs.declared.directions.Direction.TheVariants.{Upload, Download}
 use Rattle.client_run.specs.declared.run.RunParameters.{RunParameters}
 use Rattle.client_run.specs.declared.run.Step.TheVariants as step
 use Rattle.client_run.specs.declared.run.Word.{Word}
@@ -87,10 +86,10 @@ pub by-issue : (P : Past → Type 0) (c next : ClientRun) (file : List ℕ) (l :
 unfolding issued
 by-issue P c next file l p same new = go (is_written next l)
   where
-    go : (w : Written) → let k = call_of (outcome_of w c next) (if_written w file l.file) (request_with next l) in
+    go : (w : Result ℕ WrongLength) → let k = call_of (outcome_of w c next) (if_written w file l.file) (request_with next l) in
         P (left k.answer k l p)
-    go (written.Length n) = new
-    go written.Refused = same
+    go (Ok n) = new
+    go (Err e) = same
 
 module _ (Given : Fields → List ℕ → Fields → List ℕ → Type 0) where
   -- a reply with the fields r and the data d answers the run, and was given to a request that it issued
@@ -211,30 +210,30 @@ module _ (Given : Fields → List ℕ → Fields → List ℕ → Type 0) where
   unanswered c h = never h
 
   -- a call given a number changes nothing
-  by_number : (p : Past) (l : Lent) (k : ClientCall) (x : Answer) → (answer_number x ≡ 0 → Change p (left x k l p))
+  by_number : (p : Past) (l : Lent) (k : ClientCall) (x : Result Answer Refusal) → (answer_number x ≡ 0 → Change p (left x k l p))
       → Change p (left x k l p)
-  by_number p l k (answer.Request n) f = f refl
-  by_number p l k answer.Ignored f = f refl
-  by_number p l k (answer.Closed w) f = f refl
-  by_number p l k (answer.Refused r) f = nothing
+  by_number p l k (Ok (answer.Request n)) f = f refl
+  by_number p l k (Ok answer.Ignored) f = f refl
+  by_number p l k (Ok (answer.Closed w)) f = f refl
+  by_number p l k (Err r) f = nothing
 
   module _ (p : Past) (l : Lent) (r : Fields) (d : List ℕ) (decision : Decision)
       (z : Cause p.run r (length d) decision) where
     -- where the ruling gives no number, the decision is carried out
-    ruled : (u : Ruling) → run_ruling p.run l.time (lengths_of l) ≡ u
+    ruled : (u : Result (Unit {0}) Refusal) → run_ruling p.run l.time (lengths_of l) ≡ u
         → let k = if_admitted u p.run l (carry_out decision p.run r d l) in
         (answer_number k.answer ≡ 0 → Kept l p × (is_answer p.run r ≡ true → Answering p r d))
         → Change p (left k.answer k l p)
-    ruled (Refuse x) e f = nothing
-    ruled Accept e f =
+    ruled (Err x) e f = nothing
+    ruled (Ok u) e f =
         let k = carry_out decision p.run r d l in
         by_number p l k k.answer (λ n. carried p l (f n).0 (accepted p.run l e) (f n).1 z)
 
-  begins-change : (p : Past) (params : RunParameters) (l : Lent) (u : Ruling)
+  begins-change : (p : Past) (params : RunParameters) (l : Lent) (u : Result (Unit {0}) Refusal)
       → begin_ruling p.run params l.time (lengths_of l) ≡ u
       → let k = if_admitted u p.run l (admitted_begin p.run params l) in Change p (left k.answer k l p)
-  begins-change p params l (Refuse x) e = nothing
-  begins-change p params l Accept e =
+  begins-change p params l (Err x) e = nothing
+  begins-change p params l (Ok u) e =
       by-issue (Change p) p.run _ l.file l p nothing
       (begins-with params l (begins p.run params l e))
 

@@ -26,8 +26,8 @@ use Rattle.message.specs.declared.codes.ReturnCode.TheVariants as code
 use Rattle.message.specs.Limits.{segment_bytes, max_segments, file_bytes, receipt_phase}
 use Rattle.message.specs.Segments.{segments_of, segment_of}
 use Rattle.client_run.specs.declared.run.ClientRun.{ClientRun}
-use Rattle.client_run.specs.declared.run.Direction.{Direction}
-use Rattle.client_run.specs.declared.run.Direction.TheVariants.{Download}
+use Rattle.message.specs.declared.directions.Direction.{Direction}
+use Rattle.message.specs.declared.directions.Direction.TheVariants.{Download}
 use Rattle.client_run.specs.declared.run.RunTerms.{RunTerms}
 use Rattle.client_run.specs.declared.run.Stage.{Stage}
 use Rattle.client_run.specs.declared.run.Stage.TheVariants as stage

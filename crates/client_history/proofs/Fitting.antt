@@ -31,8 +31,8 @@ use Rattle.message.specs.Replies.{upload_opened, chosen_opened, download_opened,
 use Rattle.message.specs.Segments.{segments_of, segment_of, last_mark_of}
 use Rattle.client_run.specs.declared.run.ClientRun.{ClientRun}
 use Rattle.client_run.specs.declared.run.Decision.TheVariants.{Opened, Advance, Close}
-use Rattle.client_run.specs.declared.run.Direction.{Direction}
-use Rattle.client_run.specs.declared.run.Direction.TheVariants.{Upload, Download}
+use Rattle.message.specs.declared.directions.Direction.{Direction}
+use Rattle.message.specs.declared.directions.Direction.TheVariants.{Upload, Download}
 use Rattle.client_run.specs.declared.run.Step.{Step}
 use Rattle.client_run.specs.declared.run.Step.TheVariants as step
 use Rattle.client_run.specs.declared.run.Word.TheVariants as word

@@ -1,4 +1,6 @@
 -- An order in turn: each fitting answer leads to the next step, the receipt, or the closing word.
+use Rattle.number_table.specs.declared.table.WrongLength.{WrongLength}
+use Rattle.std.specs.Prelude.{Err, Ok, Result}
 use Prim.Native.Nat.{ℕ, ◌+◌, ◌<◌, ◌≤◌}
 use mathlib.Core.Bool.{true, false}
 use mathlib.Core.List.{List}
@@ -9,8 +11,6 @@ use borrow.Author.Tests.{lt-ltb, eq-eqb, ne_eqb}
 use Rattle.frame_table.specs.declared.fields.Bits128.{Bits128}
 use Rattle.frame_table.specs.declared.fields.Fields.{Fields}
 use Rattle.frame_table.specs.Forms as forms
-use Rattle.frame_writer.specs.declared.writer.Written.{Written}
-use Rattle.frame_writer.specs.declared.writer.Written.TheVariants as written
 use Rattle.frame_table.specs.Names.{return_code, segments, transaction, segment, last_mark, order_number}
 use Rattle.frame_reader.specs.Reader.{read_reply}
 use Rattle.frame_row.specs.Row.{data_of}
@@ -22,8 +22,8 @@ use Rattle.message.specs.Segments.{segments_of, segment_of, last_mark_of}
 use Rattle.client_run.specs.declared.run.ClientRun.{ClientRun}
 use Rattle.client_run.specs.declared.run.Decision.{Decision}
 use Rattle.client_run.specs.declared.run.Decision.TheVariants.{Ignore, Opened, Advance, Close}
-use Rattle.client_run.specs.declared.run.Direction.{Direction}
-use Rattle.client_run.specs.declared.run.Direction.TheVariants.{Upload, Download}
+use Rattle.message.specs.declared.directions.Direction.{Direction}
+use Rattle.message.specs.declared.directions.Direction.TheVariants.{Upload, Download}
 use Rattle.message.specs.declared.editions.Edition.{Edition}
 use Rattle.message.specs.declared.editions.Edition.TheVariants.{V24, V25}
 use Rattle.message.specs.Editions.{opened_form}
@@ -35,8 +35,6 @@ use Rattle.client_run.specs.declared.run.Refusal.TheVariants.{
   NoSubscriber,
   WrongStage,
 }
-use Rattle.client_run.specs.declared.run.Ruling.{Ruling}
-use Rattle.client_run.specs.declared.run.Ruling.TheVariants.{Refuse, Accept}
 use Rattle.client_run.specs.declared.run.RunParameters.{RunParameters}
 use Rattle.client_run.specs.declared.run.Stage.TheVariants as stage
 use Rattle.client_run.specs.declared.run.Step.{Step}
@@ -133,10 +131,10 @@ by-issued : (P : Past → Type 0) (c next : ClientRun) (file : List ℕ) (l : Le
 unfolding issued
 by-issued P c next file l p new = go (is_written next l)
   where
-    go : (w : Written) → let k = call_of (outcome_of w c next) (if_written w file l.file) (request_with next l) in
+    go : (w : Result ℕ WrongLength) → let k = call_of (outcome_of w c next) (if_written w file l.file) (request_with next l) in
         answer_number k.answer ≡ 0 → P (left k.answer k l p)
-    go (written.Length n) h = new
-    go written.Refused h = numbered WrongBuffer h
+    go (Ok n) h = new
+    go (Err e) h = numbered WrongBuffer h
 
 -- a reply's call by the decision that the reply leads to
 by-decision : (P : Past → Type 0) (p : Past) (frame : List ℕ) (l : Lent) (decision : Decision)
@@ -150,10 +148,10 @@ by-decision P p frame l decision e f = go (run_ruling p.run l.time (lengths_of l
     Goal : ClientCall → Type 0
     Goal k = answer_number k.answer ≡ 0 → P (left k.answer k l p)
 
-    go : (u : Ruling)
+    go : (u : Result (Unit {0}) Refusal)
         → Goal (if_admitted u p.run l (admitted_reply p.run frame l))
-    go (Refuse x) = numbered x
-    go Accept = subst (λ (z : Decision). Goal (carry_out z p.run (read_reply frame) (data_of frame) l)) (sym e) f
+    go (Err x) = numbered x
+    go (Ok u) = subst (λ (z : Decision). Goal (carry_out z p.run (read_reply frame) (data_of frame) l)) (sym e) f
 
 -- ---- where the run stands then
 
@@ -434,10 +432,10 @@ begins p params l = go (begin_ruling p.run params l.time (lengths_of l))
         InTurn q params.direction step.Opening 0 params.first × (q.run.subscriber ≡ params.subscriber)
         × (q.payload ≡ l.payload) × (q.run.terms ≡ params.terms)
 
-    go : (u : Ruling) → let k = if_admitted u p.run l (admitted_begin p.run params l) in
+    go : (u : Result (Unit {0}) Refusal) → let k = if_admitted u p.run l (admitted_begin p.run params l) in
         answer_number k.answer ≡ 0 → Goal (left k.answer k l p)
-    go (Refuse x) = numbered x
-    go Accept =
+    go (Err x) = numbered x
+    go (Ok u) =
         by-issued Goal p.run _ l.file l p (
           record {
             running = refl;
@@ -458,8 +456,8 @@ pub begin-fresh : (c : ClientRun) (params : RunParameters) (l : Lent) → answer
 unfolding begin_call
 begin-fresh c params l = go (begin_ruling c params l.time (lengths_of l)) refl
   where
-    go : (u : Ruling) → begin_ruling c params l.time (lengths_of l) ≡ u
+    go : (u : Result (Unit {0}) Refusal) → begin_ruling c params l.time (lengths_of l) ≡ u
         → answer_number (if_admitted u c l (admitted_begin c params l)).answer ≡ 0
         → is_begun c.stage ≡ false
-    go (Refuse x) e h = numbered x h
-    go Accept e h = (rulings.begins c params l e).fresh
+    go (Err x) e h = numbered x h
+    go (Ok u) e h = (rulings.begins c params l e).fresh

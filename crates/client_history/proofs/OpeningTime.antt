@@ -1,5 +1,8 @@
 -- "Each call brings the time, which an opening carries as its timestamp": an opening issued, read again, has the whole
 -- time of its call. Assumes nothing.
+use Rattle.client_run.specs.declared.run.Refusal.{Refusal}
+use Rattle.number_table.specs.declared.table.WrongLength.{WrongLength}
+use Rattle.std.specs.Prelude.{Err, Ok, Result}
 use Prim.Native.Nat.{ℕ}
 use mathlib.Core.Bool.{true}
 use mathlib.Core.List.{List, []}
@@ -11,8 +14,6 @@ use Rattle.frame_table.specs.declared.fields.Fields.{Fields}
 use Rattle.frame_table.specs.Names.{no_fields, form, timestamp}
 use Rattle.frame_table.specs.Table.{is_request_form, row_fits, find_form, form_of}
 use Rattle.frame_reader.specs.Reader.{read_request}
-use Rattle.frame_writer.specs.declared.writer.Written.{Written}
-use Rattle.frame_writer.specs.declared.writer.Written.TheVariants as written
 use Rattle.frame.proofs.RoundTrip.{Sized}
 use Rattle.frame.proofs.Theorems.{request-read}
 use Rattle.message.specs.Requests.{upload_opening, chosen_opening, download_opening}
@@ -20,12 +21,10 @@ use Rattle.message.proofs.Verdicts.{by-test}
 use Rattle.client_run.specs.declared.run.Answer.TheVariants as answer
 use Rattle.client_run.specs.declared.run.ClientRun.{ClientRun}
 use Rattle.client_run.specs.declared.run.Decision.{Decision}
-use Rattle.client_run.specs.declared.run.Direction.{Direction}
-use Rattle.client_run.specs.declared.run.Direction.TheVariants.{Upload, Download}
+use Rattle.message.specs.declared.directions.Direction.{Direction}
+use Rattle.message.specs.declared.directions.Direction.TheVariants.{Upload, Download}
 use Rattle.message.specs.declared.editions.Edition.{Edition}
 use Rattle.message.specs.declared.editions.Edition.TheVariants.{V24, V25}
-use Rattle.client_run.specs.declared.run.Ruling.{Ruling}
-use Rattle.client_run.specs.declared.run.Ruling.TheVariants.{Refuse, Accept}
 use Rattle.client_run.specs.declared.run.RunParameters.{RunParameters}
 use Rattle.client_run.specs.declared.run.Step.TheVariants as step
 use Rattle.client_run.specs.NextRun.{begun, repeated}
@@ -71,9 +70,9 @@ module _ (c : ClientRun) (time : ℕ) (nonce : List ℕ) where
 
 -- the call answered with a request of n bytes, of which this time is read
 abbrev Carries : ClientCall → Lent → Type 0
-Carries k l = (n : ℕ) → k.answer ≡ answer.Request n → timestamp (read_request (take n k.request)) ≡ l.time
+Carries k l = (n : ℕ) → k.answer ≡ Ok (answer.Request n) → timestamp (read_request (take n k.request)) ≡ l.time
 
-read-time : (next : ClientRun) (l : Lent) (n : ℕ) → next.step ≡ step.Opening → is_written next l ≡ written.Length n
+read-time : (next : ClientRun) (l : Lent) (n : ℕ) → next.step ≡ step.Opening → is_written next l ≡ Ok n
     → timestamp (read_request (take n (request_with next l))) ≡ l.time
 unfolding is_written request_with
 read-time next l n s e =
@@ -88,28 +87,28 @@ issued-time : (c next : ClientRun) (file : List ℕ) (l : Lent) → next.step �
 unfolding issued
 issued-time c next file l s n = go (is_written next l) refl
   where
-    go : (w : Written) → is_written next l ≡ w
+    go : (w : Result ℕ WrongLength) → is_written next l ≡ w
         → let k = call_of (outcome_of w c next) (if_written w file l.file) (request_with next l) in
-        k.answer ≡ answer.Request n → timestamp (read_request (take n k.request)) ≡ l.time
-    go (written.Length m) e h = read-time next l n s cc
-    go written.Refused e h = absurd (let z : ◌≡◌ {A = ℕ} 0 1 = cc in omega arith)
+        k.answer ≡ Ok (answer.Request n) → timestamp (read_request (take n k.request)) ≡ l.time
+    go (Ok m) e h = read-time next l n s cc
+    go (Err x) e h = absurd (let z : ◌≡◌ {A = ℕ} 0 1 = cc in omega arith)
 
 pub begin-time : (c : ClientRun) (params : RunParameters) (l : Lent) → Carries (begin_call c params l) l
 unfolding begin_call begun
 begin-time c params l = go (begin_ruling c params l.time (lengths_of l))
   where
-    go : (u : Ruling) → Carries (if_admitted u c l (admitted_begin c params l)) l
-    go (Refuse x) n h = absurd (let z : ◌≡◌ {A = ℕ} 0 1 = cc in omega arith)
-    go Accept n h = issued-time c (begun_by params l) l.file l refl n h
+    go : (u : Result (Unit {0}) Refusal) → Carries (if_admitted u c l (admitted_begin c params l)) l
+    go (Err x) n h = absurd (let z : ◌≡◌ {A = ℕ} 0 1 = cc in omega arith)
+    go (Ok u) n h = issued-time c (begun_by params l) l.file l refl n h
 
 -- an opening repeated carries the time of the call that repeats it
 pub repeat-time : (c : ClientRun) (l : Lent) → c.step ≡ step.Opening → Carries (no_reply_call c l) l
 unfolding no_reply_call on_no_reply repeated
 repeat-time c l s = go (run_ruling c l.time (lengths_of l))
   where
-    go : (u : Ruling) → Carries (if_admitted u c l (admitted_no_reply c l)) l
-    go (Refuse x) = λ n h. absurd (let z : ◌≡◌ {A = ℕ} 0 1 = cc in omega arith)
-    go Accept =
+    go : (u : Result (Unit {0}) Refusal) → Carries (if_admitted u c l (admitted_no_reply c l)) l
+    go (Err x) = λ n h. absurd (let z : ◌≡◌ {A = ℕ} 0 1 = cc in omega arith)
+    go (Ok u) =
         by-test (λ (decision : Decision). Carries (carry_out decision c no_fields [] l) l) (may_repeat c)
         (λ _. issued-time c (repeated c) l.file l s)
         (λ _ n h. absurd (let z : ◌≡◌ {A = ℕ} 0 1 = cc in omega arith))

@@ -1,4 +1,6 @@
 -- What stays from event to event: of a begun run, of one with its transaction known, of one that has ended.
+use Rattle.client_run.specs.declared.run.Refusal.{Refusal}
+use Rattle.std.specs.Prelude.{Err, Ok, Result}
 use Prim.Native.Nat.{ℕ}
 use mathlib.Core.Bool.{Bool, true, false, cond}
 use mathlib.Core.List.Memᴰ.{tail as there}
@@ -9,10 +11,8 @@ use lib.ListN.{length}
 use Rattle.frame_table.specs.declared.fields.Fields.{Fields}
 use Rattle.octets.proofs.Tests.{never}
 use Rattle.client_run.specs.declared.run.ClientRun.{ClientRun}
-use Rattle.client_run.specs.declared.run.Direction.{Direction}
-use Rattle.client_run.specs.declared.run.Direction.TheVariants.{Upload, Download}
-use Rattle.client_run.specs.declared.run.Ruling.{Ruling}
-use Rattle.client_run.specs.declared.run.Ruling.TheVariants.{Refuse, Accept}
+use Rattle.message.specs.declared.directions.Direction.{Direction}
+use Rattle.message.specs.declared.directions.Direction.TheVariants.{Upload, Download}
 use Rattle.client_run.specs.declared.run.RunParameters.{RunParameters}
 use Rattle.client_run.specs.declared.run.Stage.TheVariants as stage
 use Rattle.client_run.specs.declared.run.Step.{Step}
@@ -139,13 +139,13 @@ module _ (Given : Fields → List ℕ → Fields → List ℕ → Type 0) where
 
 module _ (p : Past) where
   -- a call that is not admitted changes nothing
-  not-admitted : (l : Lent) (k : ClientCall) (u : Ruling) → (u ≡ Accept → ⊥)
+  not-admitted : (l : Lent) (k : ClientCall) (u : Result (Unit {0}) Refusal) → (u ≡ Ok tt → ⊥)
       → let o = if_admitted u p.run l k in left o.answer o l p ≡ p
-  not-admitted l k (Refuse x) h = refl
-  not-admitted l k Accept h = absurd (h refl)
+  not-admitted l k (Err x) h = refl
+  not-admitted l k (Ok u) h = absurd (h refl)
 
   module _ (idle : p.run.stage ≡ stage.Running → ⊥) where
-    run-idle : (l : Lent) → run_ruling p.run l.time (lengths_of l) ≡ Accept → ⊥
+    run-idle : (l : Lent) → run_ruling p.run l.time (lengths_of l) ≡ Ok tt → ⊥
     run-idle l h = idle (accepted p.run l h).running
 
     -- 8, "the run has ended" or "another call to one not begun": a reply and no reply leave it as it is

@@ -20,7 +20,7 @@ use Rattle.message.specs.Limits.{max_segments}
 use Rattle.message.specs.Segments.{segments_of}
 use Rattle.journal.proofs.Lookup.{same-name}
 use Rattle.client_run.specs.declared.run.ClientRun.{ClientRun}
-use Rattle.client_run.specs.declared.run.Direction.TheVariants.{Upload, Download}
+use Rattle.message.specs.declared.directions.Direction.TheVariants.{Upload, Download}
 use Rattle.message.specs.declared.editions.Edition.{Edition}
 use Rattle.message.specs.declared.editions.Edition.TheVariants.{V24, V25}
 use Rattle.client_run.specs.declared.run.RunTerms.{RunTerms}

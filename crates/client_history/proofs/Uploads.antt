@@ -24,8 +24,8 @@ use Rattle.octets.proofs.Tests.{and-true}
 use Rattle.message.specs.Requests.{upload_transfer}
 use Rattle.message.specs.Segments.{segments_of, last_mark_of}
 use Rattle.client_run.specs.declared.run.ClientRun.{ClientRun}
-use Rattle.client_run.specs.declared.run.Direction.{Direction}
-use Rattle.client_run.specs.declared.run.Direction.TheVariants.{Upload}
+use Rattle.message.specs.declared.directions.Direction.{Direction}
+use Rattle.message.specs.declared.directions.Direction.TheVariants.{Upload}
 use Rattle.client_run.specs.declared.run.RunTerms.{RunTerms}
 use Rattle.message.specs.Editions.{order_opened}
 use Rattle.client_run.specs.declared.run.Stage.{Stage}

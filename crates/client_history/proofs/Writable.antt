@@ -1,5 +1,6 @@
 -- From a begin, each request that a run issues is written, in at most 303 bytes: a call that its ruling admits is given
 -- no number. Over every list of events whose arguments are of their types, at any times. Assumes nothing.
+use Rattle.std.specs.Prelude.{Ok}
 use Prim.Native.Nat.{ℕ, ◌^◌, ◌≤◌, ◌<◌}
 use mathlib.Core.Bool.{true}
 use mathlib.Core.List.{List, []}
@@ -14,7 +15,6 @@ use Rattle.frame_table.specs.declared.table.Form.{Form}
 use Rattle.frame_table.specs.Forms as forms
 use Rattle.frame_table.specs.Names.{no_fields, transaction}
 use Rattle.frame_table.specs.Table.{is_request_form, last_time}
-use Rattle.frame_writer.specs.declared.writer.Written.TheVariants.{Length}
 use Rattle.frame_reader.specs.Reader.{read_reply}
 use Rattle.frame_row.specs.Row.{data_of}
 use Rattle.frame_writer.specs.Writer.{frame_of}
@@ -37,12 +37,11 @@ use Rattle.message.proofs.Writable.{
 use Rattle.client_run.specs.declared.run.ClientRun.{ClientRun}
 use Rattle.client_run.specs.declared.run.Decision.{Decision}
 use Rattle.client_run.specs.declared.run.Decision.TheVariants.{Ignore, Opened, Advance, Return, Repeat, Close}
-use Rattle.client_run.specs.declared.run.Direction.{Direction}
-use Rattle.client_run.specs.declared.run.Direction.TheVariants.{Upload, Download}
+use Rattle.message.specs.declared.directions.Direction.{Direction}
+use Rattle.message.specs.declared.directions.Direction.TheVariants.{Upload, Download}
 use Rattle.message.specs.declared.editions.Edition.{Edition}
 use Rattle.message.specs.declared.editions.Edition.TheVariants.{V24, V25}
 use Rattle.client_run.specs.declared.run.Lengths.{Lengths}
-use Rattle.client_run.specs.declared.run.Ruling.TheVariants.{Accept}
 use Rattle.client_run.specs.declared.run.RunParameters.{RunParameters}
 use Rattle.client_run.specs.declared.run.RunTerms.{RunTerms}
 use Rattle.client_run.specs.declared.run.Step.TheVariants as step
@@ -115,7 +114,7 @@ part_length p s first last = (simp (length-take, length-drop) (omega arith), sim
 pub record Sent (c : ClientRun) (l : Lent) : Type 0 where
   pub size : ℕ
   pub small : size ≤ request_room
-  pub written : is_written c l ≡ Length size
+  pub written : is_written c l ≡ Ok size
 
 module _ (c : ClientRun) (issues : List Issue) (b : Bounded c issues) (v : Wide c.transaction) (l : Lent)
     (t : TypedLent l) (timely : l.time ≤ last_time)
@@ -266,7 +265,7 @@ begin-sent c params l t b =
 
 module _ (c : ClientRun) (issues : List Issue) (v : Wide c.transaction) (s : Bounds c issues) where
   run-unrefused : (decision : Decision) (r : Fields) (d : List ℕ) (l : Lent) → TypedLent l → Wide (transaction r)
-      → Cause c r (length d) decision → run_ruling c l.time (lengths_of l) ≡ Accept
+      → Cause c r (length d) decision → run_ruling c l.time (lengths_of l) ≡ Ok tt
       → Unrefused (if_admitted (run_ruling c l.time (lengths_of l)) c l (carry_out decision c r d l)).answer
   run-unrefused decision r d l t w k e = rw e (at s)
     where
@@ -277,7 +276,7 @@ module _ (c : ClientRun) (issues : List Issue) (v : Wide c.transaction) (s : Bou
       at (fresh n z) = not-new-running (ap (λ (x : ClientRun). x.stage) n) a.running
       at (going b) = carried-unrefused c issues b v l t a r d w decision k
 
-  call-unrefused : (e : Event) → Typed e → ruling_of e c ≡ Accept → Unrefused (call_of e c).answer
+  call-unrefused : (e : Event) → Typed e → ruling_of e c ≡ Ok tt → Unrefused (call_of e c).answer
   unfolding begin_call reply_call no_reply_call
   call-unrefused (Begin params l) (typed-begin t) e =
       rw e
@@ -291,7 +290,7 @@ module _ (c : ClientRun) (issues : List Issue) (v : Wide c.transaction) (s : Bou
       run-unrefused (on_no_reply c) no_fields [] l t (omega arith, omega arith) (by-no-reply c no_fields 0) e
 
 -- after every list of events: one more that its ruling admits is given no number, and a request has at most 303 bytes
-pub unrefused : (es : List Event) → AllTyped es → (e : Event) → Typed e → ruling_of e (past_of es).run ≡ Accept
+pub unrefused : (es : List Event) → AllTyped es → (e : Event) → Typed e → ruling_of e (past_of es).run ≡ Ok tt
     → Unrefused (call_of e (past_of es).run).answer
 unrefused es a e t h =
     call-unrefused (past_of es).run (past_of es).issues (transaction-wide es a) (bounds es) e t h

@@ -1,4 +1,7 @@
 -- What any events leave of a run, fair or not: how many requests it issues, under which numbers, and how far it is.
+use Rattle.std.specs.Prelude.{Ok, Err}
+use Rattle.client_run.specs.declared.run.Refusal.{Refusal}
+use Rattle.std.specs.Prelude.{Result}
 use Rattle.std.specs.Prelude.{ℕ, ◌+◌, ◌*◌, ◌≤◌, true, ◌⊎◌, ◌≡◌, length}
 use mathlib.Core.List.{List, [], ◌∷◌, Memᴰ as In}
 use Rattle.octets.specs.Bytes.{Bytes}
@@ -8,9 +11,8 @@ use Rattle.message.specs.Segments.{segments_of}
 use Rattle.client_run.specs.declared.run.Answer.{Answer}
 use Rattle.client_run.specs.declared.run.Answer.TheVariants as answer
 use Rattle.client_run.specs.declared.run.ClientRun.{ClientRun}
-use Rattle.client_run.specs.declared.run.Direction.{Direction}
-use Rattle.client_run.specs.declared.run.Direction.TheVariants.{Upload, Download}
-use Rattle.client_run.specs.declared.run.Ruling.{Ruling}
+use Rattle.message.specs.declared.directions.Direction.{Direction}
+use Rattle.message.specs.declared.directions.Direction.TheVariants.{Upload, Download}
 use Rattle.client_run.specs.declared.run.RunParameters.{RunParameters}
 use Rattle.client_run.specs.declared.run.Step.{Step}
 use Rattle.client_run.specs.declared.run.Step.TheVariants as step
@@ -105,14 +107,14 @@ pub data AllTyped : List Event → Type 0 where
   typed-none : AllTyped []
   typed-more : {e : Event} {es : List Event} → Typed e → AllTyped es → AllTyped (e ∷ es)
 
-abbrev pub ruling_of : Event → ClientRun → Ruling
+abbrev pub ruling_of : Event → ClientRun → Result (Unit {0}) Refusal
 ruling_of (Begin params l) c = begin_ruling c params l.time (lengths_of l)
 ruling_of (Reply frame l) c = run_ruling c l.time (lengths_of l)
 ruling_of (NoReply l) c = run_ruling c l.time (lengths_of l)
 
 -- no number, and a request of at most 303 bytes
-abbrev pub Unrefused : Answer → Type 0
-Unrefused (answer.Request n) = n ≤ request_room
-Unrefused answer.Ignored = Unit {0}
-Unrefused (answer.Closed w) = Unit {0}
-Unrefused (answer.Refused r) = ⊥
+abbrev pub Unrefused : Result Answer Refusal → Type 0
+Unrefused (Ok (answer.Request n)) = n ≤ request_room
+Unrefused (Ok answer.Ignored) = Unit {0}
+Unrefused (Ok (answer.Closed w)) = Unit {0}
+Unrefused (Err r) = ⊥

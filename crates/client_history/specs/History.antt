@@ -1,4 +1,6 @@
 -- The events of a client run, the requests that it issued, and which replies may reach it.
+use Rattle.std.specs.Prelude.{Result, Ok, Err}
+use Rattle.client_run.specs.declared.run.Refusal.{Refusal}
 use Rattle.std.specs.Prelude.{ℕ, ◌-◌, ◌<◌, ◌≤◌, true, ◌≡◌, length, take}
 use mathlib.Core.List.{List, [], ◌∷◌, Memᴰ as In}
 use Rattle.frame_table.specs.declared.fields.Bits128.{Bits128}
@@ -61,11 +63,11 @@ issuing c payload file time nonce issues =
     record { run = c; payload = payload; file = file; issues = issue_of c payload file time nonce ∷ issues }
 
 -- what a call leaves, by its answer: a request issued is entered; a call given a number changes nothing
-abbrev pub left : Answer → ClientCall → Lent → Past → Past
-left (answer.Request n) k l p = issuing k.run l.payload k.file l.time l.nonce p.issues
-left answer.Ignored k l p = record { run = k.run; payload = l.payload; file = k.file; issues = p.issues }
-left (answer.Closed w) k l p = record { run = k.run; payload = l.payload; file = k.file; issues = p.issues }
-left (answer.Refused r) k l p = p
+abbrev pub left : Result Answer Refusal → ClientCall → Lent → Past → Past
+left (Ok (answer.Request n)) k l p = issuing k.run l.payload k.file l.time l.nonce p.issues
+left (Ok answer.Ignored) k l p = record { run = k.run; payload = l.payload; file = k.file; issues = p.issues }
+left (Ok (answer.Closed w)) k l p = record { run = k.run; payload = l.payload; file = k.file; issues = p.issues }
+left (Err r) k l p = p
 
 -- the call that an event is
 abbrev pub call_of : Event → ClientRun → ClientCall

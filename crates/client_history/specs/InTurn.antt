@@ -1,6 +1,6 @@
 -- "In turn: ... the run's only calls are begin and the arrivals of these replies": where such a run stands.
 use Rattle.std.specs.Prelude.{ℕ, ◌≡◌}
-use Rattle.client_run.specs.declared.run.Direction.{Direction}
+use Rattle.message.specs.declared.directions.Direction.{Direction}
 use Rattle.client_run.specs.declared.run.Stage.TheVariants as stage
 use Rattle.client_run.specs.declared.run.Step.{Step}
 use Rattle.client_history.specs.History.{Past}

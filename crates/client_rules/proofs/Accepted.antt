@@ -1,4 +1,5 @@
 -- What is known of a call that is given no number by its ruling. Assumes nothing.
+use Rattle.std.specs.Prelude.{Ok}
 use Prim.Native.Nat.{ℕ, ◌≤◌}
 use mathlib.Core.Bool.{false, not}
 use mathlib.Core.Path.{◌≡◌, refl}
@@ -9,10 +10,9 @@ use Rattle.octets.proofs.Tests.{or-neither}
 use Rattle.frame_table.specs.Table.{last_time}
 use Rattle.message.specs.Limits.{file_bytes, subscribers}
 use Rattle.client_run.specs.declared.run.ClientRun.{ClientRun}
-use Rattle.client_run.specs.declared.run.Direction.{Direction}
-use Rattle.client_run.specs.declared.run.Direction.TheVariants.{Upload, Download}
+use Rattle.message.specs.declared.directions.Direction.{Direction}
+use Rattle.message.specs.declared.directions.Direction.TheVariants.{Upload, Download}
 use Rattle.client_run.specs.declared.run.Lengths.{Lengths}
-use Rattle.client_run.specs.declared.run.Ruling.TheVariants.{Accept}
 use Rattle.client_run.specs.declared.run.RunParameters.{RunParameters}
 use Rattle.client_run.specs.declared.run.Stage.{Stage}
 use Rattle.client_run.specs.declared.run.Stage.TheVariants as stage
@@ -68,7 +68,7 @@ pub record Accepted (c : ClientRun) (l : Lent) : Type 0 where
   pub length : SameLength c.direction c (lengths_of l)
 
 accepted-at : (c : ClientRun) (l : Lent) (s : Stage) → c.stage ≡ s → l.time ≤ last_time
-    → ruling_at_stage s c (lengths_of l) ≡ Accept → Accepted c l
+    → ruling_at_stage s c (lengths_of l) ≡ Ok tt → Accepted c l
 unfolding ruling_not_begun ruling_running ruling_ended wrong_lengths
 accepted-at c l stage.NotBegun e t h =
     not-accepted _ (passed (ltb (lengths_of l).request request_room) _ _ h).1
@@ -84,7 +84,7 @@ accepted-at c l stage.Running e t h =
     }
 accepted-at c l (stage.Ended w) e t h = not-accepted _ (passed (wrong_lengths c (lengths_of l)) _ _ h).1
 
-pub accepted : (c : ClientRun) (l : Lent) → run_ruling c l.time (lengths_of l) ≡ Accept → Accepted c l
+pub accepted : (c : ClientRun) (l : Lent) → run_ruling c l.time (lengths_of l) ≡ Ok tt → Accepted c l
 unfolding run_ruling
 accepted c l h = let a = in-time l.time _ h in accepted-at c l c.stage refl a.0 a.1
 
@@ -98,7 +98,7 @@ pub record Begins (c : ClientRun) (params : RunParameters) (l : Lent) : Type 0 w
   pub fresh : is_begun c.stage ≡ false
 
 pub begins : (c : ClientRun) (params : RunParameters) (l : Lent)
-    → begin_ruling c params l.time (lengths_of l) ≡ Accept → Begins c params l
+    → begin_ruling c params l.time (lengths_of l) ≡ Ok tt → Begins c params l
 unfolding begin_ruling ruling_at_begin no_subscriber
 begins c params l h =
     let t = in-time l.time _ h in
@@ -121,7 +121,7 @@ file-served Upload l s e = not-both refl e
 file-served Download l s e = s.0
 
 -- what an admitted call with a reply or with none may rely on
-pub admitted : (c : ClientRun) (l : Lent) → run_ruling c l.time (lengths_of l) ≡ Accept
+pub admitted : (c : ClientRun) (l : Lent) → run_ruling c l.time (lengths_of l) ≡ Ok tt
     → (c.exchange ≤ max_exchange) × (c.direction ≡ Download → (lengths_of l).file ≡ file_bytes)
 admitted c l h =
     let known = accepted c l h in (known.exchange, file-served c.direction (lengths_of l) known.buffers)

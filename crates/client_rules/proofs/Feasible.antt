@@ -7,8 +7,8 @@ use Rattle.frame_table.specs.declared.fields.Fields.{Fields}
 use Rattle.message.specs.Limits.{segment_bytes, max_attempts, file_bytes}
 use Rattle.client_run.specs.declared.run.ClientRun.{ClientRun}
 use Rattle.client_run.specs.declared.run.Decision.TheVariants.{Opened, Advance, Return, Repeat}
-use Rattle.client_run.specs.declared.run.Direction.{Direction}
-use Rattle.client_run.specs.declared.run.Direction.TheVariants.{Upload, Download}
+use Rattle.message.specs.declared.directions.Direction.{Direction}
+use Rattle.message.specs.declared.directions.Direction.TheVariants.{Upload, Download}
 use Rattle.client_run.specs.NextRun.{learned, HasPlace}
 use Rattle.client_run.specs.Run.{max_exchange}
 use Rattle.client_run.proofs.Apart.{not-both}

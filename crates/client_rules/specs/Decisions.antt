@@ -36,8 +36,8 @@ use Rattle.message.specs.Verdicts.{decide}
 use Rattle.client_run.specs.declared.run.ClientRun.{ClientRun}
 use Rattle.client_run.specs.declared.run.Decision.{Decision}
 use Rattle.client_run.specs.declared.run.Decision.TheVariants.{Ignore, Opened, Advance, Return, Repeat, Close}
-use Rattle.client_run.specs.declared.run.Direction.{Direction}
-use Rattle.client_run.specs.declared.run.Direction.TheVariants.{Upload, Download}
+use Rattle.message.specs.declared.directions.Direction.{Direction}
+use Rattle.message.specs.declared.directions.Direction.TheVariants.{Upload, Download}
 use Rattle.message.specs.Editions.{opened_form}
 use Rattle.client_run.specs.declared.run.Step.{Step}
 use Rattle.client_run.specs.declared.run.Step.TheVariants as step

@@ -5,43 +5,23 @@ ghost use Rattle.client_rules.specs.Rulings.{is_begun, ruling_at_begin, begin_ru
 ghost use Rattle.client_rules.specs.Rulings.{ruling_ended, ruling_at_stage, run_ruling};
 
 use client_run::run::{
-    ClientRun, Direction, Lengths, MAX_EXCHANGE, MAX_FIRST_EXCHANGE, REQUEST_ROOM, Refusal, Ruling,
-    RunParameters, Stage,
+    ClientRun, Lengths, MAX_EXCHANGE, MAX_FIRST_EXCHANGE, REQUEST_ROOM, Refusal, RunParameters,
+    Stage,
 };
 use frame_table::table::LAST_TIME;
+use message::directions::Direction;
 use message::limits::{FILE_BYTES, SUBSCRIBERS};
 
 // Number 1 before the other numbers: the time is over the last one.
-fn time_first(time: u64, others: Ruling) -> Ruling
+#[tactic(auto, unfolding(crate::specs::Rulings::time_first))]
+fn time_first(time: u64, others: Result<(), Refusal>) -> Result<(), Refusal>
     ensures { result ≡ time_first time others }
 {
     if LAST_TIME < time {
-        return Ruling::Refuse(Refusal::TimeTooHigh);
+        Err(Refusal::TimeTooHigh)
+    } else {
+        others
     }
-    others
-}
-
-// Whether a length does not serve an upload.
-fn wrong_for_upload(l: Lengths) -> bool
-    ensures { result ≡ wrong_buffers Direction.Upload l }
-{
-    if l.payload == 0 {
-        return true;
-    }
-    if FILE_BYTES < l.payload {
-        return true;
-    }
-    l.request < REQUEST_ROOM
-}
-
-// Whether a length does not serve a download.
-fn wrong_for_download(l: Lengths) -> bool
-    ensures { result ≡ wrong_buffers Direction.Download l }
-{
-    if l.file != FILE_BYTES {
-        return true;
-    }
-    l.request < REQUEST_ROOM
 }
 
 // Whether a length does not serve the direction.
@@ -49,8 +29,8 @@ fn wrong_buffers(direction: Direction, l: Lengths) -> bool
     ensures { result ≡ wrong_buffers direction l }
 {
     match direction {
-        Direction::Upload => wrong_for_upload(l),
-        Direction::Download => wrong_for_download(l),
+        Direction::Upload => l.payload == 0 || FILE_BYTES < l.payload || l.request < REQUEST_ROOM,
+        Direction::Download => l.file != FILE_BYTES || l.request < REQUEST_ROOM,
     }
 }
 
@@ -58,112 +38,109 @@ fn wrong_buffers(direction: Direction, l: Lengths) -> bool
 fn changed_length(c: ClientRun, l: Lengths) -> bool
     ensures { result ≡ changed_length c.direction c l }
 {
-    let direction = c.direction;
-    match direction {
+    match c.direction {
         Direction::Upload => l.payload as u64 != c.length,
         Direction::Download => false,
     }
 }
 
 // Whether a length does not serve the run.
+#[tactic(auto, unfolding(crate::specs::Rulings::wrong_lengths))]
 fn wrong_lengths(c: ClientRun, l: Lengths) -> bool
     ensures { result ≡ wrong_lengths c l }
 {
-    let direction = c.direction;
-    if wrong_buffers(direction, l) {
-        return true;
-    }
-    changed_length(c, l)
+    wrong_buffers(c.direction, l) || changed_length(c, l)
 }
 
 // Whether there is no such subscriber.
+#[tactic(auto, unfolding(crate::specs::Rulings::no_subscriber))]
 fn no_subscriber(subscriber: u64) -> bool
     ensures { result ≡ no_subscriber subscriber }
 {
-    if subscriber < 1 {
-        return true;
-    }
-    SUBSCRIBERS < subscriber
+    !(1..=SUBSCRIBERS).contains(&subscriber)
 }
 
 // Whether the run was begun.
 pub fn is_begun(stage: Stage) -> bool
     ensures { result ≡ is_begun stage }
 {
-    match stage {
-        Stage::NotBegun => false,
-        Stage::Running => true,
-        Stage::Ended(_) => true,
-    }
+    !matches!(stage, Stage::NotBegun)
 }
 
 // Whether begin is given one of the numbers 5 to 8.
-fn ruling_at_begin(c: ClientRun, params: RunParameters, l: Lengths) -> Ruling
+#[tactic(auto, unfolding(crate::specs::Rulings::ruling_at_begin))]
+fn ruling_at_begin(c: ClientRun, params: RunParameters, l: Lengths) -> Result<(), Refusal>
     ensures { result ≡ ruling_at_begin c params l }
 {
-    let direction = params.direction;
-    if wrong_buffers(direction, l) {
-        return Ruling::Refuse(Refusal::WrongBuffer);
+    if wrong_buffers(params.direction, l) {
+        Err(Refusal::WrongBuffer)
+    } else if MAX_FIRST_EXCHANGE < params.first {
+        Err(Refusal::ExchangeTooHigh)
+    } else if no_subscriber(params.subscriber) {
+        Err(Refusal::NoSubscriber)
+    } else if is_begun(c.stage) {
+        Err(Refusal::WrongStage)
+    } else {
+        Ok(())
     }
-    if MAX_FIRST_EXCHANGE < params.first {
-        return Ruling::Refuse(Refusal::ExchangeTooHigh);
-    }
-    if no_subscriber(params.subscriber) {
-        return Ruling::Refuse(Refusal::NoSubscriber);
-    }
-    let stage = c.stage;
-    if is_begun(stage) {
-        return Ruling::Refuse(Refusal::WrongStage);
-    }
-    Ruling::Accept
 }
 
 // Whether begin is given a number.
-pub fn begin_ruling(c: ClientRun, params: RunParameters, time: u64, l: Lengths) -> Ruling
+#[tactic(auto, unfolding(crate::specs::Rulings::begin_ruling))]
+pub fn begin_ruling(
+    c: ClientRun,
+    params: RunParameters,
+    time: u64,
+    l: Lengths,
+) -> Result<(), Refusal>
     ensures { result ≡ begin_ruling c params time l }
 {
     time_first(time, ruling_at_begin(c, params, l))
 }
 
 // The number that a call to a run not begun is given.
-fn ruling_not_begun(l: Lengths) -> Ruling
+#[tactic(auto, unfolding(crate::specs::Rulings::ruling_not_begun))]
+fn ruling_not_begun(l: Lengths) -> Result<(), Refusal>
     ensures { result ≡ ruling_not_begun l }
 {
     if l.request < REQUEST_ROOM {
-        return Ruling::Refuse(Refusal::WrongBuffer);
+        Err(Refusal::WrongBuffer)
+    } else {
+        Err(Refusal::WrongStage)
     }
-    Ruling::Refuse(Refusal::WrongStage)
 }
 
 // Whether a call to a running run is given a number.
-fn ruling_running(c: ClientRun, l: Lengths) -> Ruling
+#[tactic(auto, unfolding(crate::specs::Rulings::ruling_running))]
+fn ruling_running(c: ClientRun, l: Lengths) -> Result<(), Refusal>
     ensures { result ≡ ruling_running c l }
 {
     if wrong_lengths(c, l) {
-        return Ruling::Refuse(Refusal::WrongBuffer);
+        Err(Refusal::WrongBuffer)
+    } else if MAX_EXCHANGE < c.exchange {
+        Err(Refusal::ExchangeTooHigh)
+    } else {
+        Ok(())
     }
-    if MAX_EXCHANGE < c.exchange {
-        return Ruling::Refuse(Refusal::ExchangeTooHigh);
-    }
-    Ruling::Accept
 }
 
 // The number that a call to an ended run is given.
-fn ruling_ended(c: ClientRun, l: Lengths) -> Ruling
+#[tactic(auto, unfolding(crate::specs::Rulings::ruling_ended))]
+fn ruling_ended(c: ClientRun, l: Lengths) -> Result<(), Refusal>
     ensures { result ≡ ruling_ended c l }
 {
     if wrong_lengths(c, l) {
-        return Ruling::Refuse(Refusal::WrongBuffer);
+        Err(Refusal::WrongBuffer)
+    } else {
+        Err(Refusal::WrongStage)
     }
-    Ruling::Refuse(Refusal::WrongStage)
 }
 
 // Whether a call with a reply, or with none, is given one of the numbers 5 to 8.
-fn ruling_at_stage(c: ClientRun, l: Lengths) -> Ruling
+fn ruling_at_stage(c: ClientRun, l: Lengths) -> Result<(), Refusal>
     ensures { result ≡ ruling_at_stage c.stage c l }
 {
-    let stage = c.stage;
-    match stage {
+    match c.stage {
         Stage::NotBegun => ruling_not_begun(l),
         Stage::Running => ruling_running(c, l),
         Stage::Ended(_) => ruling_ended(c, l),
@@ -171,7 +148,8 @@ fn ruling_at_stage(c: ClientRun, l: Lengths) -> Ruling
 }
 
 // Whether a call with a reply, or with none, is given a number.
-pub fn run_ruling(c: ClientRun, time: u64, l: Lengths) -> Ruling
+#[tactic(auto, unfolding(crate::specs::Rulings::run_ruling))]
+pub fn run_ruling(c: ClientRun, time: u64, l: Lengths) -> Result<(), Refusal>
     ensures { result ≡ run_ruling c time l }
 {
     time_first(time, ruling_at_stage(c, l))

@@ -1,11 +1,12 @@
 -- Constructors that differ are never equal. Assumes nothing.
+use Rattle.std.specs.Prelude.{Result}
+use Rattle.std.specs.Prelude.{Err, Ok}
 use Prim.Native.Nat.{ℕ}
 use mathlib.Core.Path.{◌≡◌}
 use native.Mathlib.Omega.{arith}
-use Rattle.client_run.specs.declared.run.Direction.{Direction}
-use Rattle.client_run.specs.declared.run.Direction.TheVariants.{Upload, Download}
+use Rattle.message.specs.declared.directions.Direction.{Direction}
+use Rattle.message.specs.declared.directions.Direction.TheVariants.{Upload, Download}
 use Rattle.client_run.specs.declared.run.Refusal.{Refusal}
-use Rattle.client_run.specs.declared.run.Ruling.TheVariants.{Refuse, Accept}
 use Rattle.client_run.specs.declared.run.Stage.{Stage}
 use Rattle.client_run.specs.declared.run.Stage.TheVariants as stage
 use Rattle.client_run.specs.declared.run.Step.{Step}
@@ -30,5 +31,5 @@ not-new-running a b = absurd (let z : ◌≡◌ {A = ℕ} 0 1 = cc in omega arit
 pub not-ended-running : {A : Type 0} {x : Stage} (w : Word) → x ≡ stage.Ended w → x ≡ stage.Running → A
 not-ended-running w a b = absurd (let z : ◌≡◌ {A = ℕ} 0 1 = cc in omega arith)
 
-pub not-accepted : {A : Type 0} (x : Refusal) → Refuse x ≡ Accept → A
+pub not-accepted : {A : Type 0} (x : Refusal) → ◌≡◌ {A = Result (Unit {0}) Refusal} (Err x) (Ok tt) → A
 not-accepted x h = absurd (let z : ◌≡◌ {A = ℕ} 0 1 = cc in omega arith)

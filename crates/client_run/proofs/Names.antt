@@ -7,8 +7,8 @@ use Rattle.frame_table.specs.Names.{subscriber, order_type}
 use Rattle.message.specs.Limits.{ful}
 use Rattle.message.specs.Requests.{upload_opening, chosen_opening, download_opening}
 use Rattle.client_run.specs.declared.run.ClientRun.{ClientRun}
-use Rattle.client_run.specs.declared.run.Direction.{Direction}
-use Rattle.client_run.specs.declared.run.Direction.TheVariants.{Upload, Download}
+use Rattle.message.specs.declared.directions.Direction.{Direction}
+use Rattle.message.specs.declared.directions.Direction.TheVariants.{Upload, Download}
 use Rattle.message.specs.declared.editions.Edition.{Edition}
 use Rattle.message.specs.declared.editions.Edition.TheVariants.{V24, V25}
 use Rattle.client_run.specs.declared.run.Step.{Step}

@@ -6,8 +6,8 @@ use Rattle.frame_table.specs.Names.{segments, transaction, order_number}
 use Rattle.message.specs.Limits.{segment_bytes, max_segments}
 use Rattle.message.specs.Segments.{segments_of}
 use Rattle.client_run.specs.declared.run.ClientRun.{ClientRun}
-use Rattle.client_run.specs.declared.run.Direction.{Direction}
-use Rattle.client_run.specs.declared.run.Direction.TheVariants.{Upload, Download}
+use Rattle.message.specs.declared.directions.Direction.{Direction}
+use Rattle.message.specs.declared.directions.Direction.TheVariants.{Upload, Download}
 use Rattle.message.specs.declared.editions.Edition.{Edition}
 use Rattle.message.specs.declared.editions.Edition.TheVariants.{V24, V25}
 use Rattle.client_run.specs.declared.run.Lengths.{Lengths}

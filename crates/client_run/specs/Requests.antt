@@ -6,8 +6,8 @@ use Rattle.octets.specs.Bytes.{number}
 use Rattle.message.specs.Requests.{upload_opening, chosen_opening, download_opening, upload_transfer, download_transfer, receipt}
 use Rattle.message.specs.Segments.{segment_of, last_mark_of}
 use Rattle.client_run.specs.declared.run.ClientRun.{ClientRun}
-use Rattle.client_run.specs.declared.run.Direction.{Direction}
-use Rattle.client_run.specs.declared.run.Direction.TheVariants.{Upload, Download}
+use Rattle.message.specs.declared.directions.Direction.{Direction}
+use Rattle.message.specs.declared.directions.Direction.TheVariants.{Upload, Download}
 use Rattle.message.specs.declared.editions.Edition.{Edition}
 use Rattle.message.specs.declared.editions.Edition.TheVariants.{V24, V25}
 use Rattle.client_run.specs.declared.run.RunTerms.{RunTerms}

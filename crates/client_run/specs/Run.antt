@@ -1,4 +1,5 @@
 -- A client run, its closing words and the numbers that its calls are given.
+use Rattle.std.specs.Prelude.{Result, Ok, Err}
 use Rattle.std.specs.Prelude.{ℕ, ◌%◌, ◌^◌, List, length}
 use Rattle.number_table.specs.Table as numbers
 pub use Rattle.frame_writer.specs.Writer.{request_room}
@@ -6,8 +7,8 @@ use Rattle.octets.specs.Texts.{ascii}
 use Rattle.message.specs.Limits.{ful, fdl}
 use Rattle.journal.specs.declared.event.OrderName.{OrderName}
 use Rattle.client_run.specs.declared.run.ClientRun.{ClientRun}
-use Rattle.client_run.specs.declared.run.Direction.{Direction}
-use Rattle.client_run.specs.declared.run.Direction.TheVariants as direction
+use Rattle.message.specs.declared.directions.Direction.{Direction}
+use Rattle.message.specs.declared.directions.Direction.TheVariants as direction
 use Rattle.message.specs.declared.editions.Edition.TheVariants.{V25}
 use Rattle.client_run.specs.declared.run.RunParameters.{RunParameters}
 use Rattle.client_run.specs.declared.run.RunTerms.{RunTerms}
@@ -44,11 +45,11 @@ refusal_number NoSubscriber = numbers.no_subscriber
 refusal_number WrongStage = numbers.wrong_stage
 
 -- document 01's number for an answer, 0 where it is none
-abbrev pub answer_number : Answer → ℕ
-answer_number (answer.Request n) = 0
-answer_number answer.Ignored = 0
-answer_number (answer.Closed w) = 0
-answer_number (answer.Refused r) = refusal_number r
+abbrev pub answer_number : Result Answer Refusal → ℕ
+answer_number (Ok (answer.Request n)) = 0
+answer_number (Ok answer.Ignored) = 0
+answer_number (Ok (answer.Closed w)) = 0
+answer_number (Err r) = refusal_number r
 
 -- "Closing words", as document 01 writes them
 abbrev pub word_text : Word → List ℕ
@@ -125,5 +126,5 @@ pub record ClientCall : Type 0 where
   pub run : ClientRun
   pub file : List ℕ
   pub request : List ℕ
-  pub answer : Answer
+  pub answer : Result Answer Refusal
   pub number : ℕ

@@ -5,10 +5,9 @@ ghost use Rattle.client_run.specs.Run.{max_exchange};
 ghost use Rattle.client_run.specs.NextRun.{begin_length, begun, step_after, go_on, repeated, learned};
 ghost use Rattle.client_run.specs.NextRun.{learned_number, HasPlace, length_with, holding, ended};
 
-use crate::run::{
-    ClientRun, Direction, Lengths, RunParameters, RunTerms, Stage, Step, Word, chosen_number,
-};
+use crate::run::{ClientRun, Lengths, RunParameters, RunTerms, Stage, Step, Word, chosen_number};
 use frame_table::fields::{Bits128, Fields};
+use message::directions::Direction;
 use message::editions::Edition;
 use message::limits::SEGMENT_SIZE;
 use message::segments::segments_of;
@@ -24,19 +23,18 @@ pub fn begin_length(direction: Direction, l: Lengths) -> u64
 }
 
 // The run as begun.
+#[tactic(auto, unfolding(crate::specs::NextRun::begun))]
 pub fn begun(params: RunParameters, n: u64) -> ClientRun
     ensures { result ≡ begun params n }
 {
-    let direction = params.direction;
-    let terms = params.terms;
     ClientRun {
         stage: Stage::Running,
-        direction: direction,
+        direction: params.direction,
         step: Step::Opening,
         subscriber: params.subscriber,
         exchange: params.first,
         repeats: 0,
-        terms,
+        terms: params.terms,
         transaction: Bits128 { high: 0, low: 0 },
         number: 0,
         length: n,
@@ -46,117 +44,73 @@ pub fn begun(params: RunParameters, n: u64) -> ClientRun
     }
 }
 
-// The step of a download after segment k of n.
-fn download_step(k: u64, n: u64) -> Step
-    ensures { result ≡ step_after Direction.Download k n }
-{
-    if k == n {
-        return Step::Receipt;
-    }
-    Step::Segment
-}
-
-// The step after segment k of n.
+// The step after segment k of n: a download's receipt stands behind segment n.
 fn step_after(direction: Direction, k: u64, n: u64) -> Step
     ensures { result ≡ step_after direction k n }
 {
     match direction {
-        Direction::Upload => Step::Segment,
-        Direction::Download => download_step(k, n),
+        Direction::Download if k == n => Step::Receipt,
+        _ => Step::Segment,
     }
-}
-
-fn larger(a: u64, b: u64) -> u64
-    ensures { result ≡ max a b }
-{
-    if a < b {
-        return b;
-    }
-    a
 }
 
 // The run with the request after segment k outstanding.
+#[tactic(auto, unfolding(crate::specs::NextRun::go_on))]
 pub fn go_on(k: u64, repeats: u64, c: ClientRun) -> ClientRun
     requires { (k + 1 < 2 ^ 64) × (c.exchange ≤ max_exchange) }
     ensures { result ≡ go_on k repeats c }
 {
-    let stage = c.stage;
-    let direction = c.direction;
-    let terms = c.terms;
-    let transaction = c.transaction;
     ClientRun {
-        stage,
-        direction: direction,
-        step: step_after(direction, k, c.segments),
-        subscriber: c.subscriber,
+        step: step_after(c.direction, k, c.segments),
         exchange: c.exchange + 1,
         repeats,
-        terms,
-        transaction,
-        number: c.number,
-        length: c.length,
-        segments: c.segments,
         segment: k + 1,
-        issued: larger(c.issued, k + 1),
+        issued: c.issued.max(k + 1),
+        ..c
     }
 }
 
 // The run with the same request outstanding again.
+#[tactic(auto, unfolding(crate::specs::NextRun::repeated))]
 pub fn repeated(c: ClientRun) -> ClientRun
     requires { (c.repeats + 1 < 2 ^ 64) × (c.exchange ≤ max_exchange) }
     ensures { result ≡ repeated c }
 {
-    let mut next = c;
-    next.exchange = c.exchange + 1;
-    next.repeats = c.repeats + 1;
-    next
+    ClientRun {
+        exchange: c.exchange + 1,
+        repeats: c.repeats + 1,
+        ..c
+    }
 }
 
 // The order number of an upload that was opened: in edition 2.4 the one that begin brought, in 2.5 the reply's.
 fn learned_number(terms: RunTerms, r: Fields) -> u64
     ensures { result ≡ learned_number terms.edition terms r }
 {
-    let edition = terms.edition;
-    match edition {
+    match terms.edition {
         Edition::V24 => chosen_number(terms),
         Edition::V25 => r.order_number(),
     }
-}
-
-// What the answer to an upload's opening tells.
-fn learned_upload(r: Fields, c: ClientRun) -> ClientRun
-    ensures { result ≡ learned Direction.Upload r c }
-{
-    let transaction = r.transaction();
-    let terms = c.terms;
-    let mut next = c;
-    next.transaction = transaction;
-    next.number = learned_number(terms, r);
-    next.segment = 0;
-    next
-}
-
-// What the answer to a download's opening tells.
-fn learned_download(r: Fields, c: ClientRun) -> ClientRun
-    ensures { result ≡ learned Direction.Download r c }
-{
-    let transaction = r.transaction();
-    let mut next = c;
-    next.transaction = transaction;
-    next.number = 0;
-    next.segments = r.segments();
-    next.segment = 1;
-    next
 }
 
 // What the answer to the opening tells.
 pub fn learned(r: Fields, c: ClientRun) -> ClientRun
     ensures { result ≡ learned c.direction r c }
 {
-    let direction = c.direction;
-    match direction {
-        Direction::Upload => learned_upload(r, c),
-        Direction::Download => learned_download(r, c),
+    match c.direction {
+        Direction::Upload => ClientRun {
+            transaction: r.transaction(),
+            number: learned_number(c.terms, r),
+            segment: 0,
+            ..c
+        },
+        Direction::Download => ClientRun {
+            transaction: r.transaction(),
+            number: 0,
+            segments: r.segments(),
+            segment: 1,
+            ..c
+        },
     }
 }
 
@@ -176,33 +130,19 @@ pub fn holding(d: usize, c: ClientRun) -> ClientRun
     requires { HasPlace c d }
     ensures { result ≡ holding d c }
 {
-    let direction = c.direction;
-    let mut next = c;
-    next.length = length_with(direction, c.segment, d, c.length);
-    next
+    ClientRun {
+        length: length_with(c.direction, c.segment, d, c.length),
+        ..c
+    }
 }
 
 // The run ended with a word.
+#[tactic(auto, unfolding(crate::specs::NextRun::ended))]
 pub fn ended(w: Word, c: ClientRun) -> ClientRun
     ensures { result ≡ ended w c }
 {
-    let direction = c.direction;
-    let step = c.step;
-    let terms = c.terms;
-    let transaction = c.transaction;
     ClientRun {
         stage: Stage::Ended(w),
-        direction: direction,
-        step,
-        subscriber: c.subscriber,
-        exchange: c.exchange,
-        repeats: c.repeats,
-        terms,
-        transaction,
-        number: c.number,
-        length: c.length,
-        segments: c.segments,
-        segment: c.segment,
-        issued: c.issued,
+        ..c
     }
 }

@@ -3,8 +3,9 @@ ghost use Rattle.std.specs.Prelude.{◌≡◌, []};
 ghost use Rattle.client_run.specs.Requests.{nonce_of, terms_opening, upload_request, download_request, upload_data};
 ghost use Rattle.client_run.specs.Requests.{outstanding, outstanding_data};
 
-use crate::run::{ClientRun, Direction, NONCE_BYTES, Step, chosen_number};
+use crate::run::{ClientRun, NONCE_BYTES, Step, chosen_number};
 use frame_table::fields::{Bits128, Fields};
+use message::directions::Direction;
 use message::editions::Edition;
 use message::requests::{
     chosen_opening, download_opening, download_transfer, receipt, upload_opening, upload_transfer,
@@ -31,16 +32,14 @@ fn nonce_of(lent: [u8; NONCE_BYTES], exchange: u64) -> Bits128
 fn opening_of(c: ClientRun, time: u64, nonce: Bits128) -> Fields
     ensures { result ≡ terms_opening c.terms c.subscriber c.exchange nonce time c.segments }
 {
-    let terms = c.terms;
-    let edition = terms.edition;
-    match edition {
+    match c.terms.edition {
         Edition::V24 => chosen_opening(
             c.subscriber,
             c.exchange,
             nonce,
             time,
             c.segments,
-            chosen_number(terms),
+            chosen_number(c.terms),
         ),
         Edition::V25 => upload_opening(c.subscriber, c.exchange, nonce, time, c.segments),
     }
@@ -50,18 +49,16 @@ fn opening_of(c: ClientRun, time: u64, nonce: Bits128) -> Fields
 fn upload_request(c: ClientRun, time: u64, nonce: [u8; NONCE_BYTES]) -> Fields
     ensures { result ≡ upload_request c.step c time nonce }
 {
-    let step = c.step;
-    let transaction = c.transaction;
-    match step {
+    match c.step {
         Step::Opening => opening_of(c, time, nonce_of(nonce, c.exchange)),
         Step::Segment => upload_transfer(
             c.subscriber,
             c.exchange,
-            transaction,
+            c.transaction,
             c.segment,
             last_mark_of(c.segment, c.segments),
         ),
-        Step::Receipt => receipt(c.subscriber, c.exchange, transaction, 0),
+        Step::Receipt => receipt(c.subscriber, c.exchange, c.transaction, 0),
     }
 }
 
@@ -69,26 +66,24 @@ fn upload_request(c: ClientRun, time: u64, nonce: [u8; NONCE_BYTES]) -> Fields
 fn download_request(c: ClientRun, time: u64, nonce: [u8; NONCE_BYTES]) -> Fields
     ensures { result ≡ download_request c.step c time nonce }
 {
-    let step = c.step;
-    let transaction = c.transaction;
-    match step {
+    match c.step {
         Step::Opening => download_opening(
             c.subscriber,
             c.exchange,
             nonce_of(nonce, c.exchange),
             time,
         ),
-        Step::Segment => download_transfer(c.subscriber, c.exchange, transaction, c.segment),
-        Step::Receipt => receipt(c.subscriber, c.exchange, transaction, 0),
+        Step::Segment => download_transfer(c.subscriber, c.exchange, c.transaction, c.segment),
+        Step::Receipt => receipt(c.subscriber, c.exchange, c.transaction, 0),
     }
 }
 
 // The fields of the outstanding request.
+#[tactic(auto, unfolding(crate::specs::Requests::outstanding))]
 pub fn request_of(c: ClientRun, time: u64, nonce: [u8; NONCE_BYTES]) -> Fields
     ensures { result ≡ outstanding c time nonce }
 {
-    let direction = c.direction;
-    match direction {
+    match c.direction {
         Direction::Upload => upload_request(c, time, nonce),
         Direction::Download => download_request(c, time, nonce),
     }
@@ -106,20 +101,18 @@ fn upload_data(step: Step, s: u64, payload: &[u8]) -> &[u8]
     ensures { result.now ≡ upload_data step s payload.now }
 {
     match step {
-        Step::Opening => no_data(payload),
         Step::Segment => segment_of(payload, s),
-        Step::Receipt => no_data(payload),
+        Step::Opening | Step::Receipt => no_data(payload),
     }
 }
 
 // The data of the outstanding request.
+#[tactic(auto, unfolding(crate::specs::Requests::outstanding_data))]
 pub fn data_of(c: ClientRun, payload: &[u8]) -> &[u8]
     ensures { result.now ≡ outstanding_data c payload.now }
 {
-    let direction = c.direction;
-    let step = c.step;
-    match direction {
-        Direction::Upload => upload_data(step, c.segment, payload),
+    match c.direction {
+        Direction::Upload => upload_data(c.step, c.segment, payload),
         Direction::Download => no_data(payload),
     }
 }

@@ -4,6 +4,7 @@ ghost use Rattle.client_run.specs.Run.{not_begun, refusal_number, chosen_number,
 
 use frame_table::fields::Bits128;
 use journal::event::OrderName;
+use message::directions::Direction;
 use message::editions::Edition;
 use message::limits::{FDL, FUL};
 use number_table::table::{
@@ -21,13 +22,6 @@ pub const MAX_FIRST_EXCHANGE: u64 = 4_294_967_104;
 
 // The highest exchange number: its field has 4 bytes.
 pub const MAX_EXCHANGE: u64 = 4_294_967_295;
-
-// The direction of a run's order.
-#[derive(Clone, Copy)]
-pub enum Direction {
-    Upload,
-    Download,
-}
 
 // The closing words of document 01. "Lodged" names the order of the run, by `order_name`.
 #[derive(Clone, Copy)]
@@ -94,7 +88,7 @@ pub struct ClientRun {
 }
 
 // Why a call is given a number: the time, a buffer, the first exchange number, the subscriber, or the run's stage.
-#[derive(Clone, Copy)]
+#[derive(Clone, Copy, Debug, PartialEq, Eq)]
 pub enum Refusal {
     TimeTooHigh,
     WrongBuffer,
@@ -104,32 +98,27 @@ pub enum Refusal {
 }
 
 // Document 01's number for the client's owner, card 3's for the time.
-pub fn refusal_number(refusal: Refusal) -> u64
-    ensures { result ≡ refusal_number refusal }
-{
-    match refusal {
-        Refusal::TimeTooHigh => WRONG_LENGTH,
-        Refusal::WrongBuffer => WRONG_BUFFER,
-        Refusal::ExchangeTooHigh => EXCHANGE_TOO_HIGH,
-        Refusal::NoSubscriber => NO_SUBSCRIBER,
-        Refusal::WrongStage => WRONG_STAGE,
+impl From<Refusal> for u64 {
+    ghost from_gives = { λ r n. n ≡ refusal_number r };
+
+    fn from(refusal: Refusal) -> u64 {
+        match refusal {
+            Refusal::TimeTooHigh => WRONG_LENGTH,
+            Refusal::WrongBuffer => WRONG_BUFFER,
+            Refusal::ExchangeTooHigh => EXCHANGE_TOO_HIGH,
+            Refusal::NoSubscriber => NO_SUBSCRIBER,
+            Refusal::WrongStage => WRONG_STAGE,
+        }
     }
 }
 
-// Whether a call is given a number.
-#[derive(Clone, Copy)]
-pub enum Ruling {
-    Refuse(Refusal),
-    Accept,
-}
-
-// What a call answers: the length of the request issued in the lent buffer, nothing, the closing word, or a number.
+// What a call answers that is given no number: the length of the request issued in the lent buffer, nothing, or the
+// closing word.
 #[derive(Clone, Copy)]
 pub enum Answer {
     Request(usize),
     Ignored,
     Closed(Word),
-    Refused(Refusal),
 }
 
 // What an event leads to: nothing, the opening's answer taken, a segment's answer taken, a return to after a segment,
@@ -154,10 +143,10 @@ pub struct Lengths {
 
 impl ClientRun {
     // A run not begun.
-    pub fn new() -> ClientRun
+    pub fn new() -> Self
         ensures { result ≡ not_begun }
     {
-        ClientRun {
+        Self {
             stage: Stage::NotBegun,
             direction: Direction::Upload,
             step: Step::Opening,
@@ -182,6 +171,7 @@ impl ClientRun {
 const ORDER_NUMBERS: u64 = 0x1_0000_0000;
 
 // The order number that an upload run of edition 2.4 was told: its four bytes.
+#[tactic(auto, unfolding(crate::specs::Run::chosen_number))]
 pub fn chosen_number(terms: RunTerms) -> u64
     ensures { result ≡ chosen_number terms }
 {
@@ -202,10 +192,9 @@ fn order_type_of(direction: Direction) -> u64
 pub fn order_name(c: ClientRun) -> OrderName
     ensures { result ≡ order_name c }
 {
-    let direction = c.direction;
     OrderName {
         subscriber: c.subscriber,
-        order_type: order_type_of(direction),
+        order_type: order_type_of(c.direction),
         number: c.number,
     }
 }

@@ -16,8 +16,8 @@ use Rattle.bank_state.specs.Store.{file_of}
 use Rattle.bank_rows.specs.State.{bank_of}
 use Rattle.bank_steps.specs.Lent.{Lent}
 use Rattle.client_run.specs.declared.run.ClientRun.{ClientRun}
-use Rattle.client_run.specs.declared.run.Direction.{Direction}
-use Rattle.client_run.specs.declared.run.Direction.TheVariants.{Upload, Download}
+use Rattle.message.specs.declared.directions.Direction.{Direction}
+use Rattle.message.specs.declared.directions.Direction.TheVariants.{Upload, Download}
 use Rattle.client_run.specs.declared.run.Stage.{Stage}
 use Rattle.client_run.specs.declared.run.Stage.TheVariants as stage
 use Rattle.client_run.specs.Run.{order_name}

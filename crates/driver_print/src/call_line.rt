@@ -16,14 +16,12 @@ use unit_state::answer::Answer;
 const LINE_BYTES: usize = 21 + 7 + COUNTS_ROOM + 1;
 
 // The character of a hexadecimal digit.
+#[tactic(auto, unfolding(crate::specs::Line::hex_digit))]
 fn hex_digit(d: u8) -> u8
     requires { d < 16 }
     ensures { result ≡ hex_digit d }
 {
-    if d < 10 {
-        return 48 + d;
-    }
-    87 + d
+    if d < 10 { b'0' + d } else { b'a' - 10 + d }
 }
 
 // Writes bytes in hexadecimal.
@@ -32,13 +30,10 @@ pub(crate) fn put_hex(output: &mut [u8], at: usize, bytes: &[u8]) -> usize
     ensures { Put output.old at (hex_of bytes.now) output.new result }
 {
     let mut end = at;
-    let mut i = 0;
-    while i < bytes.len() {
-        let b = bytes[i];
-        output[end] = hex_digit(b / 16);
-        output[end + 1] = hex_digit(b % 16);
+    for b in bytes {
+        output[end] = hex_digit(*b / 16);
+        output[end + 1] = hex_digit(*b % 16);
         end += 2;
-        i += 1;
     }
     end
 }
@@ -68,7 +63,7 @@ fn put_message(output: &mut [u8], at: usize, message: &[u8]) -> usize
     requires { at + (1 + 2 * length message.now) ≤ length output.old }
     ensures { Put output.old at (message_text message.now) output.new result }
 {
-    if message.len() == 0 {
+    if message.is_empty() {
         return put_byte(output, at, b'-');
     }
     put_hex(output, at, message)

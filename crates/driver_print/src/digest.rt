@@ -2,8 +2,6 @@
 ghost use Rattle.std.specs.Prelude.{◌≡◌};
 ghost use Rattle.driver_print.specs.Line.{digest};
 
-use octets::bytes::wide;
-
 // The largest prime below 2 to the 32.
 const MODULUS: u64 = 4294967291;
 
@@ -11,11 +9,10 @@ const MODULUS: u64 = 4294967291;
 pub(crate) fn digest(bytes: &[u8]) -> u64
     ensures { result ≡ digest bytes.now }
 {
+    // No fold, whose closure would not know that x is below the prime, so that the sum fits.
     let mut x: u64 = 0;
-    let mut i = 0;
-    while i < bytes.len() {
-        x = (x * 256 + wide(bytes[i])) % MODULUS;
-        i += 1;
+    for b in bytes {
+        x = (x * 256 + u64::from(*b)) % MODULUS;
     }
     x
 }

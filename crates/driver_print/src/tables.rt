@@ -20,8 +20,9 @@ use bank_state::search::is_booked;
 use bank_state::state::Place;
 use bank_state::store::file_of;
 use client_rules::rulings::is_begun;
-use client_run::run::{ClientRun, Direction, Stage, order_name};
+use client_run::run::{ClientRun, Stage, order_name};
 use journal::event::{Event, Kind, OrderName, RECORD_COUNT};
+use message::directions::Direction;
 use message::limits::FILE_BYTES;
 use message::order_numbers::order_number_of;
 use octets::bytes::digits;
@@ -82,8 +83,7 @@ fn put_order(output: &mut [u8], at: usize, p: Place, content: &[u8]) -> usize
     requires { (at + row_room ≤ length output.old) × (length content.now ≤ file_bytes) }
     ensures { Put output.old at (order_row p content.now) output.new result }
 {
-    let used = p.used;
-    if !is_booked(used) {
+    if !is_booked(p.used) {
         return at;
     }
     let a = put_order_columns(output, at, p, content.len() as u64, b' ');
@@ -95,7 +95,7 @@ fn put_file(output: &mut [u8], at: usize, n: u64, content: &[u8]) -> usize
     requires { (at + row_room ≤ length output.old) × (length content.now ≤ file_bytes) }
     ensures { Put output.old at (file_row n content.now) output.new result }
 {
-    if content.len() == 0 {
+    if content.is_empty() {
         return at;
     }
     let a = put_column(output, at, n, b' ');
@@ -120,12 +120,11 @@ fn put_word(output: &mut [u8], at: usize, n: u64, c: ClientRun) -> usize
     requires { at + row_room ≤ length output.old }
     ensures { Put output.old at (word_row n c) output.new result }
 {
-    let stage = c.stage;
-    if !is_begun(stage) {
+    if !is_begun(c.stage) {
         return at;
     }
     let a = put_column(output, at, n, b' ');
-    let b = put_stage(output, a, stage, order_name(c));
+    let b = put_stage(output, a, c.stage, order_name(c));
     put_byte(output, b, b'\n')
 }
 
@@ -133,8 +132,7 @@ fn put_word(output: &mut [u8], at: usize, n: u64, c: ClientRun) -> usize
 fn held_by(c: ClientRun) -> u64
     ensures { result ≡ held_by c.direction c }
 {
-    let direction = c.direction;
-    match direction {
+    match c.direction {
         Direction::Upload => 0,
         Direction::Download => c.length,
     }
@@ -159,14 +157,7 @@ fn put_kind(output: &mut [u8], at: usize, kind: Kind) -> usize
 fn is_used(kind: Kind) -> bool
     ensures { result ≡ is_used kind }
 {
-    match kind {
-        Kind::Unused => false,
-        Kind::Opened => true,
-        Kind::Booked => true,
-        Kind::Cancelled => true,
-        Kind::Dropped => true,
-        Kind::Signed => true,
-    }
+    !matches!(kind, Kind::Unused)
 }
 
 // What names the order of an event.
@@ -185,8 +176,7 @@ fn put_transaction(output: &mut [u8], at: usize, e: Event) -> usize
     requires { at + transaction_room ≤ length output.old }
     ensures { Put output.old at (transaction_text e) output.new result }
 {
-    let id = digits(e.high, e.low);
-    put_hex(output, at, &id)
+    put_hex(output, at, &digits(e.high, e.low))
 }
 
 // Writes the row of a record that is in use.
@@ -194,8 +184,7 @@ fn put_event(output: &mut [u8], at: usize, e: Event) -> usize
     requires { at + event_room ≤ length output.old }
     ensures { Put output.old at (event_row e) output.new result }
 {
-    let kind = e.kind;
-    if !is_used(kind) {
+    if !is_used(e.kind) {
         return at;
     }
     let a = put_column(output, at, e.number, b' ');
@@ -204,42 +193,51 @@ fn put_event(output: &mut [u8], at: usize, e: Event) -> usize
     let d = put_byte(output, c, b' ');
     let t = put_transaction(output, d, e);
     let s = put_byte(output, t, b' ');
-    put_kind(output, s, kind)
+    put_kind(output, s, e.kind)
+}
+
+// What the tables show: the unit, the memory lent to its bank, and the runs' file buffers.
+#[derive(Clone, Copy)]
+struct Shown<'a> {
+    unit: UnitState,
+    rows: &'a [u64],
+    orders: &'a [u8],
+    mailboxes: &'a [u8],
+    files: &'a [u8],
 }
 
 // Writes row i of a table.
-fn put_row(
-    output: &mut [u8],
-    at: usize,
-    t: Table,
-    u: UnitState,
-    rows: &[u64],
-    orders: &[u8],
-    mailboxes: &[u8],
-    files: &[u8],
-    i: usize,
-) -> usize
-    requires { (at + room_of t ≤ length output.old) × (i < row_count t) × (length rows.now ≡ state_size) }
+fn put_row(output: &mut [u8], at: usize, t: Table, shown: &Shown, i: usize) -> usize
+    requires { (at + room_of t ≤ length output.old) × (i < row_count t) × (length shown.now.rows.now ≡ state_size) }
     ensures { Put output.old at
-        (row_at t u (lent rows.now orders.now mailboxes.now) files.now i)
+        (row_at t shown.now.unit (lent shown.now.rows.now shown.now.orders.now shown.now.mailboxes.now)
+        shown.now.files.now i)
         output.new result }
 {
     let n = i as u64 + 1;
     match t {
         Table::Book => {
-            let p = place_at(rows, i);
-            put_order(output, at, p, file_of(orders, i, p.length))
+            let p = place_at(shown.rows, i);
+            put_order(output, at, p, file_of(shown.orders, i, p.length))
         }
-        Table::Mailboxes => put_file(output, at, n, file_of(mailboxes, i, file_length(rows, i))),
+        Table::Mailboxes => {
+            let length = file_length(shown.rows, i);
+            put_file(output, at, n, file_of(shown.mailboxes, i, length))
+        }
         Table::Words => {
-            let run = u.runs[i];
+            let run = shown.unit.runs[i];
             put_word(output, at, n, run.client.run)
         }
         Table::Files => {
-            let run = u.runs[i];
-            put_file(output, at, n, file_of(files, i, held_by(run.client.run)))
+            let run = shown.unit.runs[i];
+            put_file(
+                output,
+                at,
+                n,
+                file_of(shown.files, i, held_by(run.client.run)),
+            )
         }
-        Table::Journal => put_event(output, at, u.journal[i]),
+        Table::Journal => put_event(output, at, shown.unit.journal[i]),
     }
 }
 
@@ -248,38 +246,25 @@ fn row_count(t: Table) -> usize
     ensures { result ≡ row_count t }
 {
     match t {
-        Table::Book => PLACE_COUNT,
-        Table::Mailboxes => PLACE_COUNT,
-        Table::Words => RUN_COUNT,
-        Table::Files => RUN_COUNT,
+        Table::Book | Table::Mailboxes => PLACE_COUNT,
+        Table::Words | Table::Files => RUN_COUNT,
         Table::Journal => RECORD_COUNT,
     }
 }
 
 // Writes all rows of a table.
-fn put_rows(
-    output: &mut [u8],
-    at: usize,
-    t: Table,
-    u: UnitState,
-    rows: &[u64],
-    orders: &[u8],
-    mailboxes: &[u8],
-    files: &[u8],
-) -> usize
-    requires { (at + row_count t * room_of t ≤ length output.old) × (length rows.now ≡ state_size) }
+fn put_rows(output: &mut [u8], at: usize, t: Table, shown: &Shown) -> usize
+    requires { (at + row_count t * room_of t ≤ length output.old) × (length shown.now.rows.now ≡ state_size) }
     ensures { Put output.old at
         (rows_to
-        (row_at t u (lent rows.now orders.now mailboxes.now) files.now)
+        (row_at t shown.now.unit (lent shown.now.rows.now shown.now.orders.now shown.now.mailboxes.now)
+        shown.now.files.now)
         (row_count t))
         output.new result }
 {
-    let n = row_count(t);
     let mut end = at;
-    let mut i = 0;
-    while i < n {
-        end = put_row(output, end, t, u, rows, orders, mailboxes, files, i);
-        i += 1;
+    for i in 0..row_count(t) {
+        end = put_row(output, end, t, shown, i);
     }
     end
 }
@@ -308,5 +293,12 @@ pub fn table_of(
         return 0;
     }
     let at = put_header(output, t);
-    put_rows(output, at, t, u, rows, orders, mailboxes, files)
+    let shown = Shown {
+        unit: u,
+        rows,
+        orders,
+        mailboxes,
+        files,
+    };
+    put_rows(output, at, t, &shown)
 }

@@ -6,9 +6,11 @@ use Rattle.bank_session.specs.Session.{session_size}
 use Rattle.unit_state.specs.declared.state.UnitState.{UnitState}
 use Rattle.unit_state.specs.Records.{room_bytes, call_of, is_call}
 use Rattle.unit_state.specs.State.{fresh, rooms_bytes, buffer_bytes}
+use Rattle.unit_rows.specs.Rows.{unit_from}
 use Rattle.unit_rows.specs.Lines.{lines_size, stores_bytes, lines_of}
 use Rattle.unit.specs.State.{State, memory, state_of}
 use Rattle.unit.specs.Call.{unit_call}
+use Rattle.driver_session.specs.declared.session.Lending.{Lending}
 
 -- the unit after the calls of these records, one after the other
 unfoldable pub unit_after : State → List (List ℕ) → State
@@ -25,6 +27,12 @@ pub record Calls (before after : State) : Type 0 where
   pub records : List (List ℕ)
   pub each : all_calls records ≡ true
   pub left : after ≡ unit_after before records
+
+-- the unit that the lent numbers and bytes are
+abbrev pub state_in : Lending → State
+state_in l =
+    state_of (unit_from l.runs l.nonces l.row)
+    (memory (lent l.rows l.orders l.mailboxes) l.payloads l.files l.buffer l.room (lines_of l.lines l.stores))
 
 abbrev zeros : ℕ → List ℕ
 zeros n = replicate n 0

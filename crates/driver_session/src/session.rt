@@ -1,15 +1,9 @@
 // The driver's session: each record from standard input, its line to standard output; at the end the closing tables.
-ghost use Rattle.std.specs.Prelude.{◌≡◌, length};
-ghost use Rattle.bank_steps.specs.Lent.{lent};
-ghost use Rattle.bank_session.specs.Session.{session_size};
-ghost use Rattle.unit_rows.specs.Rows.{unit_from};
-ghost use Rattle.unit_rows.specs.Lines.{lines_of};
-ghost use Rattle.unit.specs.State.{memory, state_of};
-ghost use Rattle.driver_session.specs.Session.{Calls, Session};
+ghost use Rattle.driver_session.specs.Session.{state_in, Calls, Session};
 
 use bank_rows::layout::STATE_SIZE;
 use bank_session::layout::SESSION_SIZE;
-use bank_session::report::{CountAnswer, count_openings};
+use bank_session::report::count_openings;
 use bank_state::limits::STORE_BYTES;
 use driver_print::call_line::line;
 use driver_print::counts_table::counts_table;
@@ -34,205 +28,128 @@ pub struct SessionEnd {
     pub rows: [u64; SESSION_SIZE],
 }
 
-// Reads the bytes from a place up to an end, and says whether all came.
-fn read_part(rt: &impl Input, input: &mut [u8], from: usize, end: usize) -> bool {
-    if input.len() < end {
-        return false;
-    }
-    if end < from {
-        return false;
-    }
-    rt.reader().read_exact(&mut input[from..end]).is_ok()
+// What the session lends to its calls.
+#[derive(Drop)]
+struct Lending {
+    runs: [u64; RUNS_SIZE],
+    nonces: [u8; NONCES_SIZE],
+    row: [u64; ROW_SIZE],
+    rows: [u64; SESSION_SIZE],
+    orders: [u8; STORE_BYTES],
+    mailboxes: [u8; STORE_BYTES],
+    payloads: [u8; ROOMS_BYTES],
+    files: [u8; ROOMS_BYTES],
+    buffer: [u8; BUFFER_BYTES],
+    room: [u8; ROOM_BYTES],
+    lines: [u64; LINES_SIZE],
+    stores: [u8; STORES_BYTES],
 }
 
-// Reads a record into the input, and gives its length; 0 where it is cut short or its letter is none.
-fn read_record(rt: &impl Input, input: &mut [u8]) -> usize {
-    if !read_part(rt, input, 0, 1) {
-        return 0;
-    }
+// Reads the bytes from a place up to an end, where all come.
+fn read_part(rt: &impl Input, input: &mut [u8], from: usize, end: usize) -> Option<()> {
+    let part = input.get_mut(from..end)?;
+    rt.reader().read_exact(part).ok()
+}
+
+// Reads a record into the input, and gives its length, unless it is cut short or its letter is none.
+fn read_record(rt: &impl Input, input: &mut [u8]) -> Option<usize> {
+    read_part(rt, input, 0, 1)?;
     let kind = kind_of(first(input));
     let head = head_of(kind);
-    if !read_part(rt, input, 1, head) {
-        return 0;
-    }
+    read_part(rt, input, 1, head)?;
     let end = head + size_of(kind, input);
-    if !read_part(rt, input, head, end) {
-        return 0;
-    }
-    end
+    read_part(rt, input, head, end)?;
+    Some(end)
 }
 
 // The first byte, 0 where there is none.
 fn first(input: &[u8]) -> u8 {
-    if input.len() == 0 {
-        return 0;
-    }
-    input[0]
+    input.first().copied().unwrap_or(0)
 }
 
 // One record: its call, the call's line, and whether the input may go on. A message for a line not made ends it, too.
 fn step(
     rt: &(impl Input + Print),
-    runs: &mut [u64; RUNS_SIZE],
-    nonces: &mut [u8; NONCES_SIZE],
-    row: &mut [u64; ROW_SIZE],
     n: u64,
+    lending: &mut Lending,
     input: &mut [u8],
     output: &mut [u8],
-    rows: &mut [u64],
-    orders: &mut [u8],
-    mailboxes: &mut [u8],
-    payloads: &mut [u8],
-    files: &mut [u8],
-    buffer: &mut [u8],
-    room: &mut [u8],
-    lines: &mut [u64],
-    stores: &mut [u8],
 ) -> bool
-    ensures { Calls
-        (state_of (unit_from runs.old nonces.old row.old)
-        (memory (lent rows.old orders.old mailboxes.old)
-        payloads.old files.old buffer.old room.old
-        (lines_of lines.old stores.old)))
-        (state_of (unit_from runs.new nonces.new row.new)
-        (memory (lent rows.new orders.new mailboxes.new)
-        payloads.new files.new buffer.new room.new
-        (lines_of lines.new stores.new))) }
+    ensures { Calls (state_in lending.old) (state_in lending.new) }
 {
-    let size = read_record(rt, input);
-    if !is_call(call_of(front(input, size))) {
+    let Some(size) = read_record(rt, input) else {
+        return false;
+    };
+    let record = front(input, size);
+    if !is_call(call_of(record)) {
         return false;
     }
     let answer = call(
-        runs,
-        nonces,
-        row,
-        front(input, size),
-        rows,
-        orders,
-        mailboxes,
-        payloads,
-        files,
-        buffer,
-        room,
-        lines,
-        stores,
+        &mut lending.runs,
+        &mut lending.nonces,
+        &mut lending.row,
+        record,
+        &mut lending.rows,
+        &mut lending.orders,
+        &mut lending.mailboxes,
+        &mut lending.payloads,
+        &mut lending.files,
+        &mut lending.buffer,
+        &mut lending.room,
+        &mut lending.lines,
+        &mut lending.stores,
     );
     if !is_answer(answer) {
         return false;
     }
-    let k = line(n, answer, buffer, front(room, lent_length(input)), output);
+    let room = front(&lending.room, lent_length(input));
+    let k = line(n, answer, &lending.buffer, room, output);
     rt.write_all(front(output, k)).is_ok()
 }
 
-// The calls of all records. Nothing says that an input ends, so the calls are counted up to a number that no run
-// reaches.
-fn read_all(
-    rt: &(impl Input + Print),
-    runs: &mut [u64; RUNS_SIZE],
-    nonces: &mut [u8; NONCES_SIZE],
-    row: &mut [u64; ROW_SIZE],
-    input: &mut [u8],
-    output: &mut [u8],
-    rows: &mut [u64],
-    orders: &mut [u8],
-    mailboxes: &mut [u8],
-    payloads: &mut [u8],
-    files: &mut [u8],
-    buffer: &mut [u8],
-    room: &mut [u8],
-    lines: &mut [u64],
-    stores: &mut [u8],
-)
-    ensures { Calls
-        (state_of (unit_from runs.old nonces.old row.old)
-        (memory (lent rows.old orders.old mailboxes.old)
-        payloads.old files.old buffer.old room.old
-        (lines_of lines.old stores.old)))
-        (state_of (unit_from runs.new nonces.new row.new)
-        (memory (lent rows.new orders.new mailboxes.new)
-        payloads.new files.new buffer.new room.new
-        (lines_of lines.new stores.new))) }
+// The calls of all records, counted up to a number that no run reaches, since nothing says that an input ends.
+fn read_all(rt: &(impl Input + Print), lending: &mut Lending, input: &mut [u8], output: &mut [u8])
+    ensures { Calls (state_in lending.old) (state_in lending.new) }
 {
-    let mut more = true;
-    let mut calls = 0;
-    while calls < u64::MAX && more {
-        calls += 1;
-        more = step(
-            rt, runs, nonces, row, calls, input, output, rows, orders, mailboxes, payloads, files,
-            buffer, room, lines, stores,
-        );
+    for calls in 0..u64::MAX {
+        if !step(rt, calls + 1, lending, input, output) {
+            return;
+        }
     }
 }
 
-// Writes a closing table.
-fn close_table(
-    rt: &impl Print,
-    t: Table,
-    u: UnitState,
-    output: &mut [u8],
-    rows: &[u64],
-    orders: &[u8],
-    mailboxes: &[u8],
-    files: &[u8],
-)
-    requires { length rows.now ≡ session_size }
-{
-    let bank = &rows[..STATE_SIZE];
-    let n = table_of(t, u, bank, orders, mailboxes, files, output);
-    let _ = rt.write_all(front(output, n));
-}
-
-// The table of the counts into the output, and its length; numbers that get number 1 have none.
-fn counts_into(answer: CountAnswer, output: &mut [u8]) -> usize {
-    match answer {
-        CountAnswer::Counted(c) => counts_table(c, output),
-        CountAnswer::WrongLength => 0,
-    }
-}
-
-// Writes the counts that the session's call gives.
-fn close_counts(rt: &impl Print, output: &mut [u8], rows: &[u64]) {
-    let n = counts_into(count_openings(rows), output);
-    let _ = rt.write_all(front(output, n));
-}
+// The closing tables, in their order.
+const TABLES: [Table; 5] = [
+    Table::Book,
+    Table::Mailboxes,
+    Table::Words,
+    Table::Files,
+    Table::Journal,
+];
 
 // Writes the closing tables.
-fn close(
-    rt: &impl Print,
-    u: UnitState,
-    output: &mut [u8],
-    rows: &[u64],
-    orders: &[u8],
-    mailboxes: &[u8],
-    files: &[u8],
-)
-    requires { length rows.now ≡ session_size }
-{
-    close_table(rt, Table::Book, u, output, rows, orders, mailboxes, files);
-    close_table(
-        rt,
-        Table::Mailboxes,
-        u,
-        output,
-        rows,
-        orders,
-        mailboxes,
-        files,
-    );
-    close_table(rt, Table::Words, u, output, rows, orders, mailboxes, files);
-    close_table(rt, Table::Files, u, output, rows, orders, mailboxes, files);
-    close_table(
-        rt,
-        Table::Journal,
-        u,
-        output,
-        rows,
-        orders,
-        mailboxes,
-        files,
-    );
-    close_counts(rt, output, rows);
+fn close_tables(rt: &impl Print, unit: UnitState, lending: &Lending, output: &mut [u8]) {
+    let bank = &lending.rows[..STATE_SIZE];
+    for t in TABLES {
+        let n = table_of(
+            t,
+            unit,
+            bank,
+            &lending.orders,
+            &lending.mailboxes,
+            &lending.files,
+            output,
+        );
+        let _ = rt.write_all(front(output, n));
+    }
+}
+
+// Writes the counts that the session's call gives; numbers that get number 1 have none.
+fn close_counts(rt: &impl Print, rows: &[u64], output: &mut [u8]) {
+    if let Ok(c) = count_openings(rows) {
+        let n = counts_table(c, output);
+        let _ = rt.write_all(front(output, n));
+    }
 }
 
 // Makes the calls of all records, prints, and gives what the session leaves.
@@ -241,36 +158,26 @@ pub fn session(rt: &(impl Input + Print)) -> SessionEnd
 {
     let mut input = [0u8; RECORD_BYTES];
     let mut output = [0u8; TABLE_ROOM];
-    let mut rows = [0u64; SESSION_SIZE];
-    let mut orders = [0u8; STORE_BYTES];
-    let mut mailboxes = [0u8; STORE_BYTES];
-    let mut payloads = [0u8; ROOMS_BYTES];
-    let mut files = [0u8; ROOMS_BYTES];
-    let mut buffer = [0u8; BUFFER_BYTES];
-    let mut room = [0u8; ROOM_BYTES];
-    let mut lines = [0u64; LINES_SIZE];
-    let mut stores = [0u8; STORES_BYTES];
-    let mut runs = [0u64; RUNS_SIZE];
-    let mut nonces = [0u8; NONCES_SIZE];
-    let mut row = [0u64; ROW_SIZE];
-    read_all(
-        rt,
-        &mut runs,
-        &mut nonces,
-        &mut row,
-        &mut input,
-        &mut output,
-        &mut rows,
-        &mut orders,
-        &mut mailboxes,
-        &mut payloads,
-        &mut files,
-        &mut buffer,
-        &mut room,
-        &mut lines,
-        &mut stores,
-    );
-    let unit = unit_of(&runs, &nonces, &row);
-    close(rt, unit, &mut output, &rows, &orders, &mailboxes, &files);
-    SessionEnd { unit, rows }
+    let mut lending = Lending {
+        runs: [0; RUNS_SIZE],
+        nonces: [0; NONCES_SIZE],
+        row: [0; ROW_SIZE],
+        rows: [0; SESSION_SIZE],
+        orders: [0; STORE_BYTES],
+        mailboxes: [0; STORE_BYTES],
+        payloads: [0; ROOMS_BYTES],
+        files: [0; ROOMS_BYTES],
+        buffer: [0; BUFFER_BYTES],
+        room: [0; ROOM_BYTES],
+        lines: [0; LINES_SIZE],
+        stores: [0; STORES_BYTES],
+    };
+    read_all(rt, &mut lending, &mut input, &mut output);
+    let unit = unit_of(&lending.runs, &lending.nonces, &lending.row);
+    close_tables(rt, unit, &lending, &mut output);
+    close_counts(rt, &lending.rows, &mut output);
+    SessionEnd {
+        unit,
+        rows: lending.rows,
+    }
 }

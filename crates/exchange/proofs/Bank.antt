@@ -1,4 +1,7 @@
 -- The bank's part of a course: a past of the bank's calls, whose history says the course's exchanges one by one. Assumes nothing.
+use Rattle.bank.specs.declared.mailbox.FileRefusal.{FileRefusal}
+use Rattle.number_table.specs.declared.table.WrongLength.{WrongLength}
+use Rattle.std.specs.Prelude.{Err, Ok, Result}
 use Prim.Native.Nat.{ℕ, ◌≤◌, ◌-◌}
 use mathlib.Core.Bool.{Bool, true, false, cond}
 use mathlib.Core.List.Memᴰ.{head as here}
@@ -13,8 +16,6 @@ use lib.ListN.{take, get_or-replicate}
 use borrow.Author.Tests.{eqb-true, eqb-false}
 use Rattle.frame_table.specs.declared.fields.Bits128.{Bits128}
 use Rattle.frame_table.specs.declared.fields.Fields.{Fields}
-use Rattle.frame_writer.specs.declared.writer.Written.{Written}
-use Rattle.frame_writer.specs.declared.writer.Written.TheVariants as written
 use Rattle.frame_table.specs.Names.{subscriber, transaction, return_code, form}
 use Rattle.frame_reader.specs.Reader.{read_request, read_reply}
 use Rattle.frame_row.specs.Row.{data_of}
@@ -34,10 +35,6 @@ use Rattle.bank_state.specs.Store.{part_at, file_of}
 use Rattle.bank_rows.specs.State.{bank_of}
 use Rattle.bank_steps.specs.Lent.{state_of}
 use Rattle.bank_session.specs.Session.{LentSession, bank_rows, bank_in, journal_in}
-use Rattle.bank.specs.declared.call.FrameAnswer.{FrameAnswer}
-use Rattle.bank.specs.declared.call.FrameAnswer.TheVariants as frame_answer
-use Rattle.bank.specs.declared.mailbox.FileAnswer.{FileAnswer}
-use Rattle.bank.specs.declared.mailbox.FileAnswer.TheVariants as file_answer
 use Rattle.bank.specs.Call.{context_of, Step, FrameCall, replied, answer_of, lent_right, respond, frame_call, FrameInput, frame_refused}
 use Rattle.bank.specs.Mailbox.{FileCall, file_call, carry_out_file, file_refusals, file_number}
 use Rattle.bank_history.proofs.Answers.{step_of}
@@ -171,10 +168,10 @@ same-mailbox w m = refl
 record Replied (k : FrameCall) (s : Step) (buffer : List ℕ) (n : ℕ) : Type 0 where
   bank_state : k.bank_state ≡ s.bank_state
   lent : k.buffer ≡ write_buffer s.reply s.reply_data buffer
-  written : write_answer s.reply s.reply_data buffer ≡ written.Length n
+  written : write_answer s.reply s.reply_data buffer ≡ Ok n
 
 replied-by : (w : BankState) (a : FrameInput) (n : ℕ) →
-    (frame_call w a).answer ≡ frame_answer.Reply n →
+    (frame_call w a).answer ≡ Ok n →
     Replied (frame_call w a) (step_of w a) a.buffer n
 unfolding frame_call
 replied-by w a n = go (lent_right w a)
@@ -182,13 +179,13 @@ replied-by w a n = go (lent_right w a)
     s : Step
     s = step_of w a
 
-    out : (a : Written) → answer_of a ≡ frame_answer.Reply n → a ≡ written.Length n
-    out (written.Length m) h = cc
-    out written.Refused h = absurd (let z : ◌≡◌ {A = ℕ} 0 1 = cc in omega arith)
+    out : (a : Result ℕ WrongLength) → answer_of a ≡ Ok n → a ≡ Ok n
+    out (Ok m) h = cc
+    out (Err e) h = absurd (let z : ◌≡◌ {A = ℕ} 0 1 = cc in omega arith)
 
     go : (b : Bool) → let k = cond b (replied s a.buffer)
         (frame_refused w a) in
-        k.answer ≡ frame_answer.Reply n → Replied k s a.buffer n
+        k.answer ≡ Ok n → Replied k s a.buffer n
     go true h =
         record { bank_state = refl; lent = refl; written = out (write_answer s.reply s.reply_data a.buffer) h }
     go false h = absurd (let z : ◌≡◌ {A = ℕ} 0 1 = cc in omega arith)
@@ -203,14 +200,14 @@ module _ (s : Course) (b : BankPart s) (a : FrameInput) (n : ℕ) where
   abbrev x : history.Exchange
   x = call_exchange b.past.bank_state a
 
-  module _ (h : (frame_call b.past.bank_state a).answer ≡ frame_answer.Reply n) where
+  module _ (h : (frame_call b.past.bank_state a).answer ≡ Ok n) where
     told : Replied k (step_of p.bank_state a) a.buffer n
     told = replied-by p.bank_state a n h
 
     pub next-is : history.after (Frame a) p ≡ answered a p
     unfolding history.after
     next-is =
-        ap (λ (a : FrameAnswer). entered a k.bank_state x p) h
+        ap (λ (a : Result ℕ WrongLength). entered a k.bank_state x p) h
         ∙ ap (λ (w : BankState). record { bank_state = w; history = x ∷ p.history }) told.bank_state
 
     next-holds : Holds (answered a p)
@@ -306,7 +303,7 @@ module _ (s : Course) (b : BankPart s) (a : FrameInput) (n : ℕ) where
     next-journal =
         ap (λ (r : Past). journal_over (Frame a) r (journal_of b.calls)) (sym b.since)
         ∙ ap (λ (j : Journal). journal_over (Frame a) p j) b.entered-events
-        ∙ ap (λ (x : FrameAnswer). journal_by x (journal_after p.bank_state a s.journal) s.journal) h
+        ∙ ap (λ (x : Result ℕ WrongLength). journal_by x (journal_after p.bank_state a s.journal) s.journal) h
 
     -- the course behind the answered frame
     frame-part : BankPart (with_journal (journal_after p.bank_state a s.journal)
@@ -345,7 +342,7 @@ pub record Entered (s : Course) (b : BankPart s) (a : FrameInput) (t : Course) :
   pub proper : Proper (call_exchange b.past.bank_state a)
 
 entered_by_lem : (s : Course) (b : BankPart s) (a : FrameInput) (n : ℕ)
-    (h : (frame_call b.past.bank_state a).answer ≡ frame_answer.Reply n) →
+    (h : (frame_call b.past.bank_state a).answer ≡ Ok n) →
     Entered s b a
     (let k = frame_call b.past.bank_state a in
     with_journal (journal_after b.past.bank_state a s.journal)
@@ -380,11 +377,11 @@ module _ (s : Course) (b : BankPart s) (mailbox : ℕ) (file : List ℕ) where
   boxes_before = b.past.bank_state.mailboxes
 
   abbrev put : FileCall
-  put = carry_out_file file_answer.Done b.past.bank_state.bank mailbox file b.past.bank_state.mailboxes
+  put = carry_out_file (Ok tt) b.past.bank_state.bank mailbox file b.past.bank_state.mailboxes
 
-  file-by : FileSound bank_before mailbox file boxes_before file_answer.Done →
-      Holds (placed file_answer.Done put.bank put.mailboxes b.past) →
-      history.after (File mailbox file) b.past ≡ placed file_answer.Done put.bank put.mailboxes b.past →
+  file-by : FileSound bank_before mailbox file boxes_before (Ok tt) →
+      Holds (placed (Ok tt) put.bank put.mailboxes b.past) →
+      history.after (File mailbox file) b.past ≡ placed (Ok tt) put.bank put.mailboxes b.past →
       Later s b (after_file put.bank put.mailboxes mailbox file s)
   unfolding mailbox_of journal_of journal_over past_of
   file-by (rejected l) holds next = absurd (omega arith)
@@ -421,10 +418,10 @@ module _ (s : Course) (b : BankPart s) (mailbox : ℕ) (file : List ℕ) where
       Later s b (file_left bank_before boxes_before mailbox file s)
   unfolding file_call history.after
   file-part h =
-      let a = decide (file_refusals bank_before mailbox file boxes_before) file_answer.Done in
-      let e : a ≡ file_answer.Done = file-done a bank_before mailbox file boxes_before h in
-      let k : FileAnswer → FileCall = λ x. carry_out_file x bank_before mailbox file boxes_before in
-      subst (λ (x : FileAnswer). FileSound bank_before mailbox file boxes_before x →
+      let a = decide (file_refusals bank_before mailbox file boxes_before) (Ok tt) in
+      let e : a ≡ (Ok tt) = file-done a bank_before mailbox file boxes_before h in
+      let k : Result (Unit {0}) FileRefusal → FileCall = λ x. carry_out_file x bank_before mailbox file boxes_before in
+      subst (λ (x : Result (Unit {0}) FileRefusal). FileSound bank_before mailbox file boxes_before x →
       Holds (placed (k x).answer (k x).bank (k x).mailboxes b.past) →
       history.after (File mailbox file) b.past ≡ placed (k x).answer (k x).bank (k x).mailboxes b.past →
       Later s b (after_file (k x).bank (k x).mailboxes mailbox file s)) (sym e) file-by
@@ -436,22 +433,22 @@ module _ (s : Course) (b : BankPart s) (m : LentSession) (a : FrameInput) (same 
     (lent : journal_in m ≡ s.journal) (done : call_number (frame_arrives m a) ≡ 0) where
   -- what holds after the frame is answered to the bank and the journal as they were left holds after the call
   answered-so : (P : Course → Type 0) → ((n : ℕ) → let k = frame_call b.past.bank_state a in
-      k.answer ≡ frame_answer.Reply n →
+      k.answer ≡ Ok n →
       P (with_journal (journal_after b.past.bank_state a s.journal)
       (after_frame (take n k.buffer) k.bank_state (advanced a.time b.past.bank_state) a.frame s))) →
       P (carry_out (frame_arrives m a) s)
   answered-so P f =
       subst P (sym (host-frame m a done s))
       (subst (λ (j : Journal). P (frame_left (state_of (bank_in m)) j a s)) (sym lent)
-      (subst (λ (v : BankState). (n : ℕ) × ((frame_call v a).answer ≡ frame_answer.Reply n) → P (frame_left v s.journal a s))
+      (subst (λ (v : BankState). (n : ℕ) × ((frame_call v a).answer ≡ Ok n) → P (frame_left v s.journal a s))
       (b.bank_state ∙ sym same) at (frame-answered m a done)))
     where
       k : FrameCall
       k = frame_call b.past.bank_state a
 
-      at : (n : ℕ) × (k.answer ≡ frame_answer.Reply n) → P (frame_left b.past.bank_state s.journal a s)
+      at : (n : ℕ) × (k.answer ≡ Ok n) → P (frame_left b.past.bank_state s.journal a s)
       at (n, e) =
-          subst (λ (r : FrameAnswer). P (with_journal (journal_after b.past.bank_state a s.journal)
+          subst (λ (r : Result ℕ WrongLength). P (with_journal (journal_after b.past.bank_state a s.journal)
           (after_frame (reply_in r k.buffer) k.bank_state (advanced a.time b.past.bank_state) a.frame s)))
           (sym e) (f n e)
 

@@ -1,4 +1,7 @@
 -- The bytes of requests issued and of replies given: the frames of their fields and data, which are read back. Assumes nothing.
+use Rattle.client_run.specs.declared.run.Refusal.{Refusal}
+use Rattle.number_table.specs.declared.table.WrongLength.{WrongLength}
+use Rattle.std.specs.Prelude.{Err, Ok, Result}
 use Prim.Native.Nat.{ℕ}
 use mathlib.Core.Bool.{true}
 use mathlib.Core.List.{List, []}
@@ -6,8 +9,6 @@ use mathlib.Core.Path.{◌≡◌, refl, ap, ◌∙◌}
 use native.Mathlib.Omega.{arith}
 use lib.ListN.{length, take}
 use Rattle.frame_table.specs.declared.fields.Fields.{Fields}
-use Rattle.frame_writer.specs.declared.writer.Written.{Written}
-use Rattle.frame_writer.specs.declared.writer.Written.TheVariants as written
 use Rattle.frame_table.specs.Names.{form}
 use Rattle.frame_reader.specs.Reader.{read_request, read_reply}
 use Rattle.frame_row.specs.Row.{data_of}
@@ -21,10 +22,8 @@ use Rattle.client_run.specs.declared.run.Answer.TheVariants as answer
 use Rattle.client_run.specs.declared.run.ClientRun.{ClientRun}
 use Rattle.client_run.specs.declared.run.Decision.{Decision}
 use Rattle.client_run.specs.declared.run.Decision.TheVariants.{Ignore, Opened, Advance, Return, Repeat, Close}
-use Rattle.client_run.specs.declared.run.Direction.{Direction}
-use Rattle.client_run.specs.declared.run.Direction.TheVariants.{Upload, Download}
-use Rattle.client_run.specs.declared.run.Ruling.{Ruling}
-use Rattle.client_run.specs.declared.run.Ruling.TheVariants.{Refuse, Accept}
+use Rattle.message.specs.declared.directions.Direction.{Direction}
+use Rattle.message.specs.declared.directions.Direction.TheVariants.{Upload, Download}
 use Rattle.client_run.specs.declared.run.RunParameters.{RunParameters}
 use Rattle.client_run.specs.declared.run.Step.{Step}
 use Rattle.client_run.specs.declared.run.Step.TheVariants as step
@@ -79,20 +78,20 @@ outstanding-request c time nonce = go c.direction
 
 -- the call's request is the outstanding request of the run that it leaves
 pub record Issued (k : ClientCall) (l : Lent) (n : ℕ) : Type 0 where
-  pub answer : is_written k.run l ≡ written.Length n
+  pub answer : is_written k.run l ≡ Ok n
   pub buffer : k.request ≡ request_with k.run l
 
 abbrev Issues : ClientCall → Lent → Type 0
-Issues k l = (n : ℕ) → k.answer ≡ answer.Request n → Issued k l n
+Issues k l = (n : ℕ) → k.answer ≡ Ok (answer.Request n) → Issued k l n
 
 issued-issues : (c next : ClientRun) (file : List ℕ) (l : Lent) → Issues (issued c next file l) l
 unfolding issued
 issued-issues c next file l n = go (is_written next l) refl
   where
-    go : (w : Written) → is_written next l ≡ w → (outcome_of w c next).answer ≡ answer.Request n →
+    go : (w : Result ℕ WrongLength) → is_written next l ≡ w → (outcome_of w c next).answer ≡ Ok (answer.Request n) →
         Issued (call_of (outcome_of w c next) (if_written w file l.file) (request_with next l)) l n
-    go (written.Length m) e h = record { answer = cc; buffer = refl }
-    go written.Refused e h = absurd (let z : ◌≡◌ {A = ℕ} 0 1 = cc in omega arith)
+    go (Ok m) e h = record { answer = cc; buffer = refl }
+    go (Err x) e h = absurd (let z : ◌≡◌ {A = ℕ} 0 1 = cc in omega arith)
 
 module _ (c : ClientRun) (r : Fields) (d : List ℕ) (l : Lent) where
   carried-issues : (decision : Decision) → Issues (carry_out decision c r d l) l
@@ -106,18 +105,18 @@ module _ (c : ClientRun) (r : Fields) (d : List ℕ) (l : Lent) where
   carried-issues Repeat n h = issued-issues c (repeated c) l.file l n h
   carried-issues (Close w) n h = absurd (let z : ◌≡◌ {A = ℕ} 0 1 = cc in omega arith)
 
-  ruled-issues : (u : Ruling) (decision : Decision) → Issues (if_admitted u c l (carry_out decision c r d l)) l
-  ruled-issues (Refuse x) decision n h = absurd (let z : ◌≡◌ {A = ℕ} 0 1 = cc in omega arith)
-  ruled-issues Accept decision n h = carried-issues decision n h
+  ruled-issues : (u : Result (Unit {0}) Refusal) (decision : Decision) → Issues (if_admitted u c l (carry_out decision c r d l)) l
+  ruled-issues (Err x) decision n h = absurd (let z : ◌≡◌ {A = ℕ} 0 1 = cc in omega arith)
+  ruled-issues (Ok u) decision n h = carried-issues decision n h
 
 module _ (c : ClientRun) (l : Lent) where
   pub begin-issues : (params : RunParameters) → Issues (begin_call c params l) l
   unfolding begin_call
   begin-issues params = go (begin_ruling c params l.time (lengths_of l))
     where
-      go : (u : Ruling) → Issues (if_admitted u c l (admitted_begin c params l)) l
-      go (Refuse x) n h = absurd (let z : ◌≡◌ {A = ℕ} 0 1 = cc in omega arith)
-      go Accept n h = issued-issues c (begun params (begin_length params.direction (lengths_of l))) l.file l n h
+      go : (u : Result (Unit {0}) Refusal) → Issues (if_admitted u c l (admitted_begin c params l)) l
+      go (Err x) n h = absurd (let z : ◌≡◌ {A = ℕ} 0 1 = cc in omega arith)
+      go (Ok u) n h = issued-issues c (begun params (begin_length params.direction (lengths_of l))) l.file l n h
 
   pub reply-issues : (frame : List ℕ) → Issues (reply_call c frame l) l
   unfolding reply_call

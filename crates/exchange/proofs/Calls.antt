@@ -1,4 +1,6 @@
 -- A call given a number leaves the course as it was; one given none is carried out. Assumes nothing.
+use Rattle.bank.specs.declared.mailbox.FileRefusal.{FileRefusal}
+use Rattle.std.specs.Prelude.{Err, Ok, Result}
 use Prim.Native.Nat.{ℕ}
 use mathlib.Core.Bool.{Bool, cond}
 use mathlib.Core.List.{List}
@@ -8,8 +10,7 @@ use native.Mathlib.Decide.{ℕ_discrete}
 use native.Mathlib.Omega.{arith}
 use borrow.Author.Tests.{eq-eqb, ne_eqb}
 use Rattle.bank_state.specs.State.{Bank}
-use Rattle.bank.specs.declared.mailbox.FileAnswer.{FileAnswer}
-use Rattle.bank.specs.declared.mailbox.FileAnswer.TheVariants as file_answer
+use Rattle.bank.specs.declared.mailbox.FileRefusal.TheVariants as file_answer
 use Rattle.bank.specs.Mailbox.{carry_out_file, file_number}
 use Rattle.exchange.specs.Course.{Call, Course, call_number, carry_out, exec}
 
@@ -39,10 +40,10 @@ by_number k s P same f = at (number-or-none k s)
     at (inr (z, e)) = subst P (sym e) (f z)
 
 -- a file call given no number is done
-pub file-done : (a : FileAnswer) (b : Bank) (mailbox : ℕ) (file mailboxes : List ℕ) →
-    file_number (carry_out_file a b mailbox file mailboxes).answer ≡ 0 → a ≡ file_answer.Done
-file-done file_answer.Done b mailbox file mailboxes z = refl
-file-done file_answer.WrongLength b mailbox file mailboxes z = absurd (omega arith)
-file-done file_answer.NoMailbox b mailbox file mailboxes z = absurd (omega arith)
-file-done file_answer.WrongFile b mailbox file mailboxes z = absurd (omega arith)
-file-done file_answer.MailboxFull b mailbox file mailboxes z = absurd (omega arith)
+pub file-done : (a : Result (Unit {0}) FileRefusal) (b : Bank) (mailbox : ℕ) (file mailboxes : List ℕ) →
+    file_number (carry_out_file a b mailbox file mailboxes).answer ≡ 0 → a ≡ Ok tt
+file-done (Ok u) b mailbox file mailboxes z = refl
+file-done (Err file_answer.WrongLength) b mailbox file mailboxes z = absurd (omega arith)
+file-done (Err file_answer.NoMailbox) b mailbox file mailboxes z = absurd (omega arith)
+file-done (Err file_answer.WrongFile) b mailbox file mailboxes z = absurd (omega arith)
+file-done (Err file_answer.MailboxFull) b mailbox file mailboxes z = absurd (omega arith)

@@ -1,4 +1,6 @@
 -- Each run's part of a course: a past of the run's events, over the bank's replies. Assumes nothing.
+use Rattle.std.specs.Prelude.{Result, Ok, Err}
+use Rattle.client_run.specs.declared.run.Refusal.{Refusal}
 use Prim.Native.Nat.{ℕ}
 use mathlib.Core.Bool.{Bool, true, false, cond}
 use mathlib.Core.List.Memᴰ.{head as here}
@@ -49,7 +51,7 @@ use Rattle.client_history.proofs.Lifting.{lifted}
 use Rattle.client_history.proofs.Liveness.{numbered}
 use Rattle.client_history.proofs.Stays.{ended-stays}
 use Rattle.client_history.proofs.Theorems.{kept}
-use Rattle.exchange.specs.Course.{Issue, Exchange, Course, with_run, with_issued, held_of, issued_by, after_run}
+use Rattle.exchange.specs.Course.{Issue, Course, with_run, with_issued, held_of, issued_by, after_run}
 use Rattle.exchange.proofs.Bytes.{Issued, issued-request, issued-data}
 use Rattle.exchange.proofs.Told.{Opening, opening-at, opens-upload, Gave, file_in, bank-replies}
 use Rattle.exchange.proofs.Images.{Written}
@@ -278,7 +280,7 @@ module _ (s : Course) (i : ℕ) (k : ClientCall) (payload : List ℕ) where
   own-run l = rw (same-run i)
 
 new-own : (s : Course) (i n : ℕ) (k : ClientCall) (l : Lent) → Issued k l n →
-    issues_of i (issued_by (answer.Request n) i k s)
+    issues_of i (issued_by (Ok (answer.Request n)) i k s)
     ≡ issue_of k.run l.payload k.file l.time l.nonce ∷ issues_of i s.issued
 unfolding issues_of held_of
 new-own s i n k l w =
@@ -287,12 +289,12 @@ new-own s i n k l w =
     let d = issued-data w in
     λ x. record { request = q x; request_data = d x; file = take k.run.length k.file } ∷ issues_of i s.issued)
 
-new-other : (s : Course) (i j : ℕ) (k : ClientCall) (a : Answer) → (j ≡ i → ⊥) → issues_of j (issued_by a i k s) ≡ issues_of j s.issued
+new-other : (s : Course) (i j : ℕ) (k : ClientCall) (a : Result Answer Refusal) → (j ≡ i → ⊥) → issues_of j (issued_by a i k s) ≡ issues_of j s.issued
 unfolding issues_of
-new-other s i j k (answer.Request n) h = rw (ne_eqb i j (λ e. h (sym e)))
-new-other s i j k answer.Ignored h = refl
-new-other s i j k (answer.Closed w) h = refl
-new-other s i j k (answer.Refused r) h = refl
+new-other s i j k (Ok (answer.Request n)) h = rw (ne_eqb i j (λ e. h (sym e)))
+new-other s i j k (Ok answer.Ignored) h = refl
+new-other s i j k (Ok (answer.Closed w)) h = refl
+new-other s i j k (Err r) h = refl
 
 -- both ends of a course, and its images
 pub record Parts (s : Course) : Type 0 where
@@ -329,19 +331,19 @@ running-holds s v i e =
 
 module _ (s : Course) (i : ℕ) (k : ClientCall) (l : Lent) where
   -- the run is left as its history says
-  pub own-past : ((n : ℕ) → k.answer ≡ answer.Request n → Issued k l n) → answer_number k.answer ≡ 0 →
+  pub own-past : ((n : ℕ) → k.answer ≡ Ok (answer.Request n) → Issued k l n) → answer_number k.answer ≡ 0 →
       run_past (after_run i k l.payload s) i ≡ left k.answer k l (run_past s i)
   own-past issues = go k.answer refl
     where
-      go : (a : Answer) → k.answer ≡ a → answer_number a ≡ 0 →
+      go : (a : Result Answer Refusal) → k.answer ≡ a → answer_number a ≡ 0 →
           run_past (leaving s i k l.payload (issued_by a i k s)) i ≡ left a k l (run_past s i)
-      go (answer.Request n) e z =
-          own-run s i k l.payload (issued_by (answer.Request n) i k s)
+      go (Ok (answer.Request n)) e z =
+          own-run s i k l.payload (issued_by (Ok (answer.Request n)) i k s)
           ∙ ap (λ (x : List history.Issue). record { run = k.run; payload = l.payload; file = k.file; issues = x })
           (new-own s i n k l (issues n e))
-      go answer.Ignored e z = own-run s i k l.payload s.issued
-      go (answer.Closed w) e z = own-run s i k l.payload s.issued
-      go (answer.Refused r) e z = numbered r z
+      go (Ok answer.Ignored) e z = own-run s i k l.payload s.issued
+      go (Ok (answer.Closed w)) e z = own-run s i k l.payload s.issued
+      go (Err r) e z = numbered r z
 
   -- the others stay
   pub other-past : (j : ℕ) → (j ≡ i → ⊥) → run_past (after_run i k l.payload s) j ≡ run_past s j
@@ -370,7 +372,7 @@ module _ (s : Course) (v : Parts s) (i : ℕ) (e : Event) where
       at own (lodged-by z f b) = ended word.Lodged f
       at own (ended_by z f b) = ended word.NotLodged f
 
-  pub run-keeps : ((n : ℕ) → (call_of e (s.runs i)).answer ≡ answer.Request n → Issued (call_of e (s.runs i)) (lent_to e) n) →
+  pub run-keeps : ((n : ℕ) → (call_of e (s.runs i)).answer ≡ Ok (answer.Request n) → Issued (call_of e (s.runs i)) (lent_to e) n) →
       answer_number (call_of e (s.runs i)).answer ≡ 0 →
       RunHolds v.bank.calls v.bank.past.history (history.after e (run_past s i)) →
       Parts (after_run i (call_of e (s.runs i)) (lent_to e).payload s)

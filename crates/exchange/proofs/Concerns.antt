@@ -1,4 +1,7 @@
 -- What a call is to one run: nothing, a copy of its request, its begin, or a reply to its request. Assumes nothing.
+use Rattle.client_run.specs.declared.run.Refusal.{Refusal}
+use Rattle.bank.specs.declared.mailbox.FileRefusal.{FileRefusal}
+use Rattle.std.specs.Prelude.{Ok, Result}
 use Prim.Native.Nat.{ℕ, ◌≤◌}
 use mathlib.Core.Bool.{Bool, true, false}
 use mathlib.Core.List.Memᴰ.{head as here}
@@ -19,8 +22,6 @@ use Rattle.journal.specs.declared.event.Event.{Event}
 use Rattle.bank_state.specs.State.{Bank}
 use Rattle.bank_state.specs.Search.{open_count_of}
 use Rattle.bank_state.specs.State.{BankState, bank_state}
-use Rattle.bank.specs.declared.mailbox.FileAnswer.{FileAnswer}
-use Rattle.bank.specs.declared.mailbox.FileAnswer.TheVariants as file_answer
 use Rattle.bank.specs.Mailbox.{FileCall, file_number, file_call, carry_out_file, file_refusals}
 use Rattle.bank.specs.Call.{FrameInput}
 use Rattle.bank_session.specs.Session.{LentSession}
@@ -31,8 +32,8 @@ use Rattle.bank_history.proofs.Liveness.{upload-stays, download-stays}
 use Rattle.client_run.specs.declared.run.Answer.{Answer}
 use Rattle.client_run.specs.declared.run.Answer.TheVariants as answer
 use Rattle.client_run.specs.declared.run.ClientRun.{ClientRun}
-use Rattle.client_run.specs.declared.run.Direction.{Direction}
-use Rattle.client_run.specs.declared.run.Direction.TheVariants.{Upload, Download}
+use Rattle.message.specs.declared.directions.Direction.{Direction}
+use Rattle.message.specs.declared.directions.Direction.TheVariants.{Upload, Download}
 use Rattle.client_run.specs.declared.run.RunParameters.{RunParameters}
 use Rattle.client_run.specs.declared.run.Stage.TheVariants as stage
 use Rattle.client_run.specs.declared.run.Word.TheVariants.{Unclear}
@@ -135,14 +136,14 @@ file-bank s v rows mailboxes m file same z =
     before : BankState
     before = v.bank.past.bank_state
 
-    k : FileAnswer → FileCall
+    k : Result (Unit {0}) FileRefusal → FileCall
     k a = carry_out_file a before.bank m file before.mailboxes
 
-    next : FileAnswer → Past
+    next : Result (Unit {0}) FileRefusal → Past
     next a = placed (k a).answer (k a).bank (k a).mailboxes v.bank.past
 
-    a : FileAnswer
-    a = decide (file_refusals before.bank m file before.mailboxes) file_answer.Done
+    a : Result (Unit {0}) FileRefusal
+    a = decide (file_refusals before.bank m file before.mailboxes) (Ok tt)
 
     P : Bank → List ℕ → Type 0
     P c l = file_number (file_call c m file l).answer ≡ 0 →
@@ -150,9 +151,9 @@ file-bank s v rows mailboxes m file same z =
 
     done : P before.bank before.mailboxes
     done y =
-        subst (λ (x : FileAnswer). (bank_state (k x).bank s.bank.orders (k x).mailboxes ≡ (next x).bank_state)
+        subst (λ (x : Result (Unit {0}) FileRefusal). (bank_state (k x).bank s.bank.orders (k x).mailboxes ≡ (next x).bank_state)
         × ((next x).history ≡ v.bank.past.history)) (sym (file-done a before.bank m file before.mailboxes y))
-        (ap (λ (w : BankState). bank_state (k file_answer.Done).bank w.orders (k file_answer.Done).mailboxes) (sym v.bank.bank_state), refl)
+        (ap (λ (w : BankState). bank_state (k (Ok tt)).bank w.orders (k (Ok tt)).mailboxes) (sym v.bank.bank_state), refl)
 
 module _ (s : Course) (v : Parts s) (copies : Copied s) (numbers : OneExchangeNumber s) (i : ℕ) where
   -- whether a frame is a copy of the run's request
@@ -268,10 +269,10 @@ module _ (s : Course) (v : Parts s) (copies : Copied s) (numbers : OneExchangeNu
       at : Dec (j ≡ i) → Concern s v i (reply_arrives i c reply l)
       at (yes same) = own-reply done left (e, m, z, subst (λ (n : ℕ). IssuedBy n e.request s) same copy) (fresh refl)
       at (no other) =
-          let ignored : k.answer ≡ answer.Ignored = ap (λ (x : ClientRun). (reply_call x reply l).answer) left.0
+          let ignored : k.answer ≡ Ok answer.Ignored = ap (λ (x : ClientRun). (reply_call x reply l).answer) left.0
           ∙ other-ignored s v numbers i reply l done-run (left.1, left.2) j other (e, m, z, copy) in
           elsewhere
-          (subst (Same i s) now (ignored-same refl (ap (λ (a : Answer). issued_by a i k s) ignored) refl
+          (subst (Same i s) now (ignored-same refl (ap (λ (a : Result Answer Refusal). issued_by a i k s) ignored) refl
           (ap (λ (x : Course). run_past x i) now ∙ reply-past s i c left.0 reply l done
           ∙ other-stays s v numbers i reply l done-run (left.1, left.2) j other (e, m, z, copy))
           (record { run = j; other = other; exchange = e; received = (m, copy); given = z })))

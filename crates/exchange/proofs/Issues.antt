@@ -1,4 +1,6 @@
 -- The requests issued over a list of calls: they stay, and no two have one exchange number. Assumes nothing.
+use Rattle.std.specs.Prelude.{Result, Ok, Err}
+use Rattle.client_run.specs.declared.run.Refusal.{Refusal}
 use Prim.Native.Nat.{ℕ}
 use mathlib.Core.List.Memᴰ.{head as here}
 use mathlib.Core.List.Memᴰ.{not-nil as in-none}
@@ -44,11 +46,11 @@ pub in-more : {x : Issue} {l m : List Issue} → Issues l m → In x l → In x 
 in-more same k = k
 in-more one k = there k
 
-pub run-issues : (s : Course) (i : ℕ) (k : ClientCall) (a : Answer) → Issues s.issued (issued_by a i k s)
-run-issues s i k (answer.Request n) = one
-run-issues s i k answer.Ignored = same
-run-issues s i k (answer.Closed w) = same
-run-issues s i k (answer.Refused r) = same
+pub run-issues : (s : Course) (i : ℕ) (k : ClientCall) (a : Result Answer Refusal) → Issues s.issued (issued_by a i k s)
+run-issues s i k (Ok (answer.Request n)) = one
+run-issues s i k (Ok answer.Ignored) = same
+run-issues s i k (Ok (answer.Closed w)) = same
+run-issues s i k (Err r) = same
 
 carried-issues : (k : Call) (s : Course) → Issues s.issued (carry_out k s).issued
 carried-issues (frame_arrives m a) s = same

@@ -1,5 +1,7 @@
 -- A call at a time over the last one, to the bank or to a run: it is given number 1 and leaves the course, and the
 -- premises of demand 3 ask nothing of it. Assumes nothing.
+use Rattle.client_run.specs.declared.run.Refusal.{Refusal}
+use Rattle.std.specs.Prelude.{Err, Result}
 use Prim.Native.Nat.{ℕ, ◌<◌}
 use mathlib.Core.List.{List}
 use mathlib.Core.Path.{◌≡◌, ap}
@@ -9,8 +11,6 @@ use Rattle.bank_session.specs.Session.{LentSession, SessionFrameCall}
 use Rattle.bank_session.proofs.Laws.{late-unchanged}
 use Rattle.client_run.specs.declared.run.ClientRun.{ClientRun}
 use Rattle.client_run.specs.declared.run.Refusal.TheVariants.{TimeTooHigh}
-use Rattle.client_run.specs.declared.run.Ruling.{Ruling}
-use Rattle.client_run.specs.declared.run.Ruling.TheVariants.{Refuse}
 use Rattle.client_run.specs.declared.run.RunParameters.{RunParameters}
 use Rattle.client_run.specs.Run.{Lent, ClientCall, lengths_of, answer_number}
 use Rattle.client_rules.proofs.Late.{begin-late, run-late}
@@ -45,7 +45,7 @@ pub data LateCall : Call → Type 0 where
   reply : {i : ℕ} {c : ClientRun} {bytes : List ℕ} {l : Lent} → last_time < l.time → LateCall (reply_arrives i c bytes l)
   no-reply : {i : ℕ} {c : ClientRun} {l : Lent} → last_time < l.time → LateCall (no_reply i c l)
 
-ruled-late : (c : ClientRun) (l : Lent) (u : Ruling) (done : ClientCall) → u ≡ Refuse TimeTooHigh →
+ruled-late : (c : ClientRun) (l : Lent) (u : Result (Unit {0}) Refusal) (done : ClientCall) → u ≡ Err TimeTooHigh →
     answer_number (if_admitted u c l done).answer ≡ 1
 ruled-late c l u done e = rw e
 

@@ -21,8 +21,8 @@ use Rattle.bank_history.specs.History as bank
 use Rattle.bank_history.specs.Transactions.{DownloadAt, UploadUnlessIdle, DownloadUnlessIdle}
 use Rattle.bank_history.proofs.Entries.{did-same}
 use Rattle.bank_history.proofs.Liveness.{upload-stays, download-stays, clock-grows}
-use Rattle.client_run.specs.declared.run.Direction.{Direction}
-use Rattle.client_run.specs.declared.run.Direction.TheVariants.{Upload, Download}
+use Rattle.message.specs.declared.directions.Direction.{Direction}
+use Rattle.message.specs.declared.directions.Direction.TheVariants.{Upload, Download}
 use Rattle.exchange.specs.Course.{Course}
 use Rattle.exchange.specs.Terms.{IssuedBy}
 use Rattle.exchange.specs.Demand3.{is_subscribers, OneExchangeNumber}

@@ -56,7 +56,7 @@ use Rattle.bank_history.proofs.Theorems.{
   ended-unbooked,
   stands-ever,
 }
-use Rattle.client_run.specs.declared.run.Direction.TheVariants.{Download}
+use Rattle.message.specs.declared.directions.Direction.TheVariants.{Download}
 use Rattle.client_run.specs.declared.run.RunTerms.{RunTerms}
 use Rattle.client_run.specs.declared.run.Stage.TheVariants as stage
 use Rattle.client_run.specs.declared.run.Step.{Step}

@@ -1,4 +1,6 @@
 -- The request that a run has outstanding, among those that the bank received, and replies to other requests. Assumes nothing.
+use Rattle.client_run.specs.declared.run.Refusal.{Refusal}
+use Rattle.std.specs.Prelude.{Err, Ok, Result}
 use Prim.Native.Nat.{ℕ}
 use mathlib.Core.Bool.{Bool, true, false}
 use mathlib.Core.List.Memᴰ.{head as here}
@@ -9,8 +11,6 @@ use Rattle.frame_reader.specs.Reader.{read_request, read_reply}
 use Rattle.frame_row.specs.Row.{data_of}
 use Rattle.client_run.specs.declared.run.Answer.TheVariants as answer
 use Rattle.client_run.specs.declared.run.ClientRun.{ClientRun}
-use Rattle.client_run.specs.declared.run.Ruling.{Ruling}
-use Rattle.client_run.specs.declared.run.Ruling.TheVariants.{Refuse, Accept}
 use Rattle.client_run.specs.declared.run.Stage.TheVariants as stage
 use Rattle.client.specs.Calls.{if_admitted, admitted_reply, reply_call}
 use Rattle.client_run.specs.Requests.{outstanding, outstanding_data}
@@ -111,23 +111,23 @@ reply-running : (c : ClientRun) (reply : List ℕ) (l : Lent) → answer_number 
 unfolding reply_call
 reply-running c reply l = go (run_ruling c l.time (lengths_of l)) refl
   where
-    go : (u : Ruling) → run_ruling c l.time (lengths_of l) ≡ u →
+    go : (u : Result (Unit {0}) Refusal) → run_ruling c l.time (lengths_of l) ≡ u →
         answer_number (if_admitted u c l (admitted_reply c reply l)).answer ≡ 0 →
         c.stage ≡ stage.Running
-    go (Refuse x) e h = numbered x h
-    go Accept e h = (accepted c l e).running
+    go (Err x) e h = numbered x h
+    go (Ok u) e h = (accepted c l e).running
 
 -- and its answer is Ignored if the reply does not answer the outstanding request
 reply-ignored : (c : ClientRun) (reply : List ℕ) (l : Lent) → answer_number (reply_call c reply l).answer ≡ 0 →
-    is_answer c (read_reply reply) ≡ false → (reply_call c reply l).answer ≡ answer.Ignored
+    is_answer c (read_reply reply) ≡ false → (reply_call c reply l).answer ≡ Ok answer.Ignored
 unfolding reply_call on_reply
 reply-ignored c reply l done other = go (run_ruling c l.time (lengths_of l)) done
   where
-    go : (u : Ruling) →
+    go : (u : Result (Unit {0}) Refusal) →
         answer_number (if_admitted u c l (admitted_reply c reply l)).answer ≡ 0 →
-        (if_admitted u c l (admitted_reply c reply l)).answer ≡ answer.Ignored
-    go (Refuse x) h = numbered x h
-    go Accept h = rw other
+        (if_admitted u c l (admitted_reply c reply l)).answer ≡ Ok answer.Ignored
+    go (Err x) h = numbered x h
+    go (Ok u) h = rw other
 
 -- "A reply that ... lacks the outstanding request's exchange number is ignored": such is every reply to another run's request
 module _ (s : Course) (v : Parts s) (numbers : OneExchangeNumber s) (i : ℕ) (reply : List ℕ) where
@@ -152,7 +152,7 @@ module _ (s : Course) (v : Parts s) (numbers : OneExchangeNumber s) (i : ℕ) (r
     no_answer : is_answer (s.runs i) (read_reply reply) ≡ false
     no_answer = other-no-answer (ap is_begun (reply-running (s.runs i) reply l done)) j other source
 
-    pub other-ignored : (reply_call (s.runs i) reply l).answer ≡ answer.Ignored
+    pub other-ignored : (reply_call (s.runs i) reply l).answer ≡ Ok answer.Ignored
     other-ignored = reply-ignored (s.runs i) reply l done no_answer
 
     pub other-stays : history.after (Reply reply l) (run_past s i) ≡ run_past s i

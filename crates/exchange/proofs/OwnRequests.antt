@@ -47,8 +47,8 @@ use Rattle.bank_history.proofs.Liveness as bank_turn
 use Rattle.bank_history.proofs.Positions.{action-sound, signing-sound}
 use Rattle.bank_history.proofs.Theorems.{reply-is}
 use Rattle.client_run.specs.declared.run.ClientRun.{ClientRun}
-use Rattle.client_run.specs.declared.run.Direction.{Direction}
-use Rattle.client_run.specs.declared.run.Direction.TheVariants.{Upload, Download}
+use Rattle.message.specs.declared.directions.Direction.{Direction}
+use Rattle.message.specs.declared.directions.Direction.TheVariants.{Upload, Download}
 use Rattle.client_run.specs.declared.run.Step.{Step}
 use Rattle.client_run.specs.declared.run.Step.TheVariants as step
 use Rattle.client_run.specs.Requests.{nonce_of, terms_opening}

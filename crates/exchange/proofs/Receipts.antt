@@ -1,4 +1,6 @@
 -- "as it issued that receipt, its file was the mailbox's": so of each receipt answered 011000. Assumes nothing.
+use Rattle.std.specs.Prelude.{Result, Ok, Err}
+use Rattle.client_run.specs.declared.run.Refusal.{Refusal}
 use Prim.Native.Nat.{ℕ, ◌<◌}
 use mathlib.Core.Bool.{true, false}
 use mathlib.Core.List.Memᴰ.{head as here}
@@ -216,14 +218,14 @@ module _ (s : Course) (v : Parts s) (copies : Copied s) (numbers : OneExchangeNu
 -- ---- what a call issues
 
 -- a request is issued with the mailbox of its run's subscriber
-run-box : (s : Course) (i : ℕ) (k : ClientCall) (payload : List ℕ) (a : Answer) (x : Issue) → In x (issued_by a i k s) →
+run-box : (s : Course) (i : ℕ) (k : ClientCall) (payload : List ℕ) (a : Result Answer Refusal) (x : Issue) → In x (issued_by a i k s) →
     In x s.issued ⊎ (x.box ≡ box_now (after_run i k payload s) x)
-run-box s i k payload (answer.Request n) x (here z) =
+run-box s i k payload (Ok (answer.Request n)) x (here z) =
     inr (rw (eq-eqb x.run i (ap (λ (y : Issue). y.run) z)) (ap (λ (y : Issue). y.box) z))
-run-box s i k payload (answer.Request n) x (there m) = inl m
-run-box s i k payload answer.Ignored x m = inl m
-run-box s i k payload (answer.Closed w) x m = inl m
-run-box s i k payload (answer.Refused r) x m = inl m
+run-box s i k payload (Ok (answer.Request n)) x (there m) = inl m
+run-box s i k payload (Ok answer.Ignored) x m = inl m
+run-box s i k payload (Ok (answer.Closed w)) x m = inl m
+run-box s i k payload (Err r) x m = inl m
 
 carried-box : (k : Call) (s : Course) (x : Issue) → In x (carry_out k s).issued → In x s.issued ⊎ (x.box ≡ box_now (carry_out k s) x)
 carried-box (frame_arrives n a) s x m = inl m

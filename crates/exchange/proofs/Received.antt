@@ -1,4 +1,6 @@
 -- What a call leaves of the view that one run has: its requests that the bank received, and the replies to it. Assumes nothing.
+use Rattle.std.specs.Prelude.{Result, Ok, Err}
+use Rattle.client_run.specs.declared.run.Refusal.{Refusal}
 use Prim.Native.Nat.{ℕ}
 use mathlib.Core.List.Memᴰ.{head as here}
 use mathlib.Core.List.Memᴰ.{tail as there}
@@ -88,12 +90,12 @@ same_view {i} {s} {t} past exchanges issues arrivals = record {
 
 -- the call of another run
 module _ (s : Course) (i j : ℕ) (d : i ≡ j → ⊥) (k : ClientCall) (l : Lent) where
-  other-issued : (a : Answer) (x : Issue) → In x (issued_by a j k s) → x.run ≡ i → In x s.issued
-  other-issued (answer.Request n) x (here e) r = absurd (d (sym r ∙ ap (λ (u : Issue). u.run) e))
-  other-issued (answer.Request n) x (there m) r = m
-  other-issued answer.Ignored x m r = m
-  other-issued (answer.Closed w) x m r = m
-  other-issued (answer.Refused f) x m r = m
+  other-issued : (a : Result Answer Refusal) (x : Issue) → In x (issued_by a j k s) → x.run ≡ i → In x s.issued
+  other-issued (Ok (answer.Request n)) x (here e) r = absurd (d (sym r ∙ ap (λ (u : Issue). u.run) e))
+  other-issued (Ok (answer.Request n)) x (there m) r = m
+  other-issued (Ok answer.Ignored) x m r = m
+  other-issued (Ok (answer.Closed w)) x m r = m
+  other-issued (Err f) x m r = m
 
   pub other-same : Same i s (after_run j k l.payload s)
   other-same = record {

@@ -1,4 +1,5 @@
 -- What one call leaves of one run: as it was, or one event further. Assumes nothing.
+use Rattle.std.specs.Prelude.{Ok}
 use Prim.Native.Nat.{ℕ}
 use mathlib.Core.List.{List, [], ◌∷◌}
 use mathlib.Core.Logic.{◌⊎◌, inl, inr}
@@ -54,7 +55,7 @@ pub data RunStep (s : Course) (i : ℕ) : Call → Past → Type 0 where
       RunStep s i (journal_handed i c row) p
 
 -- run i after its own event
-own-step : (s : Course) (i : ℕ) (e : Event) → ((n : ℕ) → (call_of e (s.runs i)).answer ≡ answer.Request n →
+own-step : (s : Course) (i : ℕ) (e : Event) → ((n : ℕ) → (call_of e (s.runs i)).answer ≡ Ok (answer.Request n) →
     Issued (call_of e (s.runs i)) (lent_to e) n) →
     answer_number (call_of e (s.runs i)).answer ≡ 0 →
     run_past (after_run i (call_of e (s.runs i)) (lent_to e).payload s) i ≡ history.after e (run_past s i)

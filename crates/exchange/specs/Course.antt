@@ -1,5 +1,8 @@
 -- A list of calls to one bank and to client runs, and what it leaves: the steps are the definitions that the calls'
 -- contracts cite.
+use Rattle.client_run.specs.declared.run.Refusal.{Refusal}
+use Rattle.number_table.specs.declared.table.WrongLength.{WrongLength}
+use Rattle.std.specs.Prelude.{Err, Ok, Result}
 use Rattle.std.specs.Prelude.{ℕ, ◌-◌, cond, List, [], ◌∷◌, eqb, take, replicate}
 use Rattle.frame_table.specs.Names.{subscriber, return_code}
 use Rattle.frame_reader.specs.Reader.{read_request, read_reply}
@@ -14,8 +17,6 @@ use Rattle.bank_state.specs.State.{BankState, bank_state, fresh, file_length}
 use Rattle.bank_state.specs.Store.{file_of}
 use Rattle.bank_rows.specs.State.{bank_of}
 use Rattle.bank_steps.specs.Lent.{state_of}
-use Rattle.bank.specs.declared.call.FrameAnswer.{FrameAnswer}
-use Rattle.bank.specs.declared.call.FrameAnswer.TheVariants as frame_answer
 use Rattle.bank.specs.Call.{FrameInput}
 use Rattle.bank_session.specs.Session.{LentSession, bank_rows, bank_in, journal_in, session_frame_call, session_file_call}
 use Rattle.image_calls.specs.Calls.{PutAway, put_away, take_up, image_length}
@@ -259,9 +260,9 @@ call_number (puts_away m buffer) = (put_away m buffer).number
 call_number (takes_up m image) = (take_up m image).number
 
 -- the reply in the lent buffer
-abbrev pub reply_in : FrameAnswer → List ℕ → List ℕ
-reply_in (frame_answer.Reply n) buffer = take n buffer
-reply_in frame_answer.WrongLength buffer = []
+abbrev pub reply_in : Result ℕ WrongLength → List ℕ → List ℕ
+reply_in (Ok n) buffer = take n buffer
+reply_in (Err e) buffer = []
 
 -- the bank moved: an image written before is not of the bank as it stands
 abbrev pub moved : BankState → Course → Course
@@ -287,8 +288,8 @@ after_file b mailboxes m file s =
     moved (bank_state b s.bank.orders mailboxes) (with_mailboxes (changed s.mailboxes m file) s)
 
 -- the requests issued, with the one of n bytes that a call of run i issues
-abbrev pub issued_by : Answer → ℕ → ClientCall → Course → List Issue
-issued_by (answer.Request n) i k s =
+abbrev pub issued_by : Result Answer Refusal → ℕ → ClientCall → Course → List Issue
+issued_by (Ok (answer.Request n)) i k s =
     record {
       run = i;
       frame = take n k.request;
@@ -296,9 +297,9 @@ issued_by (answer.Request n) i k s =
       box = mailbox_of s.bank k.run.subscriber;
     }
     ∷ s.issued
-issued_by answer.Ignored i k s = s.issued
-issued_by (answer.Closed w) i k s = s.issued
-issued_by (answer.Refused r) i k s = s.issued
+issued_by (Ok answer.Ignored) i k s = s.issued
+issued_by (Ok (answer.Closed w)) i k s = s.issued
+issued_by (Err r) i k s = s.issued
 
 -- a call of run i
 abbrev pub after_run : ℕ → ClientCall → List ℕ → Course → Course

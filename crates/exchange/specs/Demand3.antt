@@ -14,7 +14,7 @@ use Rattle.bank_steps.specs.Lent.{state_of}
 use Rattle.bank_session.specs.Session.{bank_rows, bank_in, journal_in}
 use Rattle.bank_history.specs.Signatures.{is_signing_form}
 use Rattle.client_run.specs.declared.run.ClientRun.{ClientRun}
-use Rattle.client_run.specs.declared.run.Direction.TheVariants.{Download}
+use Rattle.message.specs.declared.directions.Direction.TheVariants.{Download}
 use Rattle.client_run.specs.declared.run.Stage.TheVariants as stage
 use Rattle.client_run.specs.declared.run.Word.TheVariants.{Lodged, NotLodged, Fetched}
 use Rattle.client_run.specs.Run.{Lent, order_name}

@@ -4,7 +4,7 @@ use Rattle.std.specs.Prelude.{ℕ, ◌+◌, ◌<◌, ◌≤◌, ◌≡◌, ◌�
 use mathlib.Core.List.{List, [], ◌∷◌, Memᴰ as In}
 use Rattle.frame_table.specs.declared.table.Form.{Form}
 use Rattle.frame_table.specs.Forms as forms
-use Rattle.frame_table.specs.Names.{subscriber, order_type, segment, transaction, return_code, form}
+use Rattle.frame_table.specs.Names.{order_type, segment, transaction, return_code, form}
 use Rattle.frame_reader.specs.Reader.{read_request, read_reply}
 use Rattle.message.specs.declared.codes.ReturnCode.TheVariants as code
 use Rattle.message.specs.Codes.{code_field}

@@ -28,8 +28,8 @@ use Rattle.bank_state.specs.Search.{open_count_of}
 use Rattle.bank.specs.Call.{FrameInput, frame_input}
 use Rattle.bank_admitted.specs.State.{StateHolds}
 use Rattle.image_calls.specs.Calls.{image_length}
-use Rattle.client_run.specs.declared.run.Direction.{Direction}
-use Rattle.client_run.specs.declared.run.Direction.TheVariants.{Upload}
+use Rattle.message.specs.declared.directions.Direction.{Direction}
+use Rattle.message.specs.declared.directions.Direction.TheVariants.{Upload}
 use Rattle.client_run.specs.declared.run.RunParameters.{RunParameters}
 use Rattle.client_run.specs.declared.run.Stage.TheVariants as stage
 use Rattle.client_run.specs.declared.run.Word.TheVariants.{Lodged, Fetched}

@@ -1,4 +1,5 @@
 -- Computed examples of demand 3: lists that meet its premises, what they come to, and the theorem applied to them.
+use Rattle.std.specs.Prelude.{Ok}
 use Prim.Native.Nat.{ℕ, ◌+◌, ◌-◌, ◌^◌}
 use mathlib.Core.Bool.{true, cond}
 use mathlib.Core.List.Memᴰ.{not-nil as in-none}
@@ -34,9 +35,9 @@ use Rattle.bank_rows.specs.Layout.{state_size}
 use Rattle.bank_steps.specs.Lent.{state_of}
 use Rattle.opening_counts.specs.Counts.{seven, no_counts, most_moved}
 use Rattle.bank_session.specs.Session.{LentSession, session, session_size, with_numbers, bank_in, journal_in}
-use Rattle.image_calls.specs.declared.calls.TakenUp.TheVariants as taken
+use Rattle.image.specs.declared.codec.ImageRefusal.TheVariants as taken
 use Rattle.image_calls.specs.Calls.{image_length, lengths_right, put_away, TakeUp, take_up_of, take_up}
-use Rattle.client_run.specs.declared.run.Direction.TheVariants.{Upload, Download}
+use Rattle.message.specs.declared.directions.Direction.TheVariants.{Upload, Download}
 use Rattle.client_run.specs.declared.run.Stage.TheVariants as stage
 use Rattle.client_run.specs.declared.run.Word.{Word}
 use Rattle.client_run.specs.declared.run.Word.TheVariants.{Lodged, NotLodged, Unclear, Fetched}
@@ -655,7 +656,7 @@ away-is : exec away opened ≡ carry_out away opened
 away-is = carried away opened away-done
 
 -- it is taken up
-up_is : take_up (standing start) (take image_length (put_away (standing opened) room).buffer) ≡ take_up_of taken.Done (standing opened)
+up_is : take_up (standing start) (take image_length (put_away (standing opened) room).buffer) ≡ take_up_of (Ok tt) (standing opened)
 up_is = put-taken (standing opened) room away-done (standing start) fresh-long
 
 up_done : call_number up ≡ 0

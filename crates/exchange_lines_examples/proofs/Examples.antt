@@ -6,7 +6,7 @@ use mathlib.Core.List.{List, [], ◌∷◌, append-nil}
 use mathlib.Core.Path.{◌≡◌, refl, sym, ap, ◌∙◌, subst}
 use Rattle.bank_admitted.specs.State.{StateHolds}
 use Rattle.bank_admitted.proofs.Fresh.{fresh-state}
-use Rattle.client_run.specs.declared.run.Direction.TheVariants.{Upload}
+use Rattle.message.specs.declared.directions.Direction.TheVariants.{Upload}
 use Rattle.client_run.specs.declared.run.Stage.TheVariants as stage
 use Rattle.client_run.specs.declared.run.Word.TheVariants.{Lodged}
 use Rattle.client_run.specs.Run.{order_name}

@@ -15,7 +15,7 @@ use Rattle.bank.specs.Call.{FrameInput, frame_call}
 use Rattle.bank_session.specs.Session.{LentSession}
 use Rattle.bank_admitted.specs.State.{StateHolds}
 use Rattle.bank_admitted.proofs.Keeps.{frame-keeps-state}
-use Rattle.client_run.specs.declared.run.Direction.{Direction}
+use Rattle.message.specs.declared.directions.Direction.{Direction}
 use Rattle.line.specs.Line.{Message}
 use Rattle.exchange.specs.Course.{Call, frame_arrives, reply_arrives, Course, call_number, carry_out, exec}
 use Rattle.exchange.proofs.Calls.{numbered-stays, carried, by_number}

@@ -2,7 +2,7 @@
 // one for the replies to them. What comes out of a line is handed on at once, in its order: each reply to the client
 // run before the next request to the bank. What the run then wants to send is put in after that, and where it has
 // nothing to send it is told that no reply came.
-use crate::fates::{Fates, later_fates, next_fate, no_fates, put_message};
+use crate::fates::{Fates, put_message};
 use exercise_texts::record::MAIL_BYTES;
 use exercise_texts::script::{FIRST_OF_B, MOVES, Move, RUN_COUNT, SEED, first_letter};
 use line::calls::make_line;
@@ -31,13 +31,13 @@ pub struct Course {
 
 // Whether all runs have closed.
 pub fn is_over(c: Course) -> bool {
-    RUN_COUNT < c.run as usize
+    RUN_COUNT < usize::from(c.run)
 }
 
 // Move i of the play, from 0 on, as the course has it.
 pub fn move_of(c: Course, i: u16) -> Move {
     Move {
-        number: MOVES as u64 + i as u64 + 1,
+        number: u64::from(MOVES) + u64::from(i) + 1,
         letter: c.letter,
         run: c.run % 16,
         fate: c.fate,
@@ -54,9 +54,9 @@ fn begin(
     back: &mut [u64; ROW_SIZE],
     back_store: &[u8; STORE_BYTES],
 ) -> Course {
-    let seed = SEED + 2 * run as u32;
-    make_line(there, there_store, seed - 1);
-    make_line(back, back_store, seed);
+    let seed = SEED + 2 * u32::from(run);
+    let _ = make_line(there, there_store, seed - 1);
+    let _ = make_line(back, back_store, seed);
     Course {
         run,
         letter: first_letter(run),
@@ -64,8 +64,8 @@ fn begin(
         repeated: false,
         issued: false,
         closed: false,
-        requests: no_fates(),
-        replies: no_fates(),
+        requests: Fates::none(),
+        replies: Fates::none(),
     }
 }
 
@@ -79,48 +79,29 @@ pub fn first_course(
     begin(FIRST_OF_B, there, there_store, back, back_store)
 }
 
-// Whether the bank has answered by a frame.
-fn is_frame(answer: Answer) -> bool {
-    match answer {
-        Answer::Frame(_) => true,
-        _ => false,
-    }
-}
-
 // The course with what a client run answered.
 fn noted(c: Course, answer: Answer) -> Course {
-    let mut d = c;
     match answer {
-        Answer::Request(_) => d.issued = true,
-        Answer::Closed(_, _) => d.closed = true,
-        _ => (),
+        Answer::Request(_) => Course { issued: true, ..c },
+        Answer::Closed(_, _) => Course { closed: true, ..c },
+        _ => c,
     }
-    d
 }
 
 // The course with this move next.
 fn with_move(c: Course, letter: u8, fate: u8) -> Course {
-    let mut d = c;
-    d.letter = letter;
-    d.fate = fate;
-    d
+    Course { letter, fate, ..c }
 }
 
-// The next of the replies' moves, and the next of the requests' moves.
-fn reply_move(c: Course) -> Course {
-    let f = c.replies;
-    let rest = later_fates(f);
-    let mut d = with_move(c, b'R', next_fate(f));
-    d.replies = rest;
-    d
-}
-
-fn request_move(c: Course) -> Course {
-    let f = c.requests;
-    let rest = later_fates(f);
-    let mut d = with_move(c, b'F', next_fate(f));
-    d.requests = rest;
-    d
+// The next of the replies' moves, if one is left, else the next of the requests' moves.
+fn next_move(c: Course) -> Option<Course> {
+    if let Some(fate) = c.replies.next() {
+        let replies = c.replies.later();
+        return Some(with_move(Course { replies, ..c }, b'R', fate));
+    }
+    let fate = c.requests.next()?;
+    let requests = c.requests.later();
+    Some(with_move(Course { requests, ..c }, b'F', fate))
 }
 
 // The request that the run has issued is put into its line; it repeats one where no reply came before it.
@@ -130,12 +111,12 @@ fn send(
     there: &mut [u64; ROW_SIZE],
     there_store: &mut [u8; STORE_BYTES],
 ) -> Course {
-    let requests = put_message(b'F', mail, there, there_store);
-    let mut d = c;
-    d.requests = requests;
-    d.issued = false;
-    d.repeated = c.letter == b'N';
-    request_move(d)
+    Course {
+        requests: put_message(b'F', mail, there, there_store),
+        issued: false,
+        repeated: c.letter == b'N',
+        ..c
+    }
 }
 
 // Where nothing is under way: the statement is in its mailbox and its download begins, or no reply came.
@@ -155,17 +136,15 @@ fn go_on(
     back: &mut [u64; ROW_SIZE],
     back_store: &[u8; STORE_BYTES],
 ) -> Course {
-    if next_fate(c.replies) != 0 {
-        return reply_move(c);
-    }
-    if next_fate(c.requests) != 0 {
-        return request_move(c);
+    if let Some(next) = next_move(c) {
+        return next;
     }
     if c.closed {
         return begin(c.run % 16 + 1, there, there_store, back, back_store);
     }
     if c.issued {
-        return send(c, mail, there, there_store);
+        let sent = send(c, mail, there, there_store);
+        return next_move(sent).unwrap_or(sent);
     }
     idle_move(c)
 }
@@ -178,13 +157,11 @@ fn with_reply(
     back: &mut [u64; ROW_SIZE],
     back_store: &mut [u8; STORE_BYTES],
 ) -> Course {
-    if !is_frame(answer) {
-        return c;
+    if let Answer::Frame(_) = answer {
+        let replies = put_message(b'R', mail, back, back_store);
+        return Course { replies, ..c };
     }
-    let replies = put_message(b'R', mail, back, back_store);
-    let mut d = c;
-    d.replies = replies;
-    d
+    c
 }
 
 // The course after its move has made this answer.

@@ -1,66 +1,69 @@
 // What becomes of a message that is put into a line: the moves that come of it.
 use exercise_texts::record::{MAIL_BYTES, keep_late, message_of};
-use line::calls::{PutAnswer, put_in};
+use line::calls::{Delivery, put_in};
 use line::decision::{Decision, decide};
 use line::layout::{MESSAGE_BYTES, ROW_SIZE, STORE_BYTES, VALUE_AT};
+use number_table::table::WrongLength;
 use octets::bytes::front;
 
-// The moves still to come of a message that was put in, each by its fate, 0 where there is none: of the message itself,
-// of its second copy, and of the message held longest, which comes out late.
+// The moves still to come of a message that was put in, each by its fate: of the message itself, of its second copy,
+// and of the message held longest, which comes out late.
 #[derive(Clone, Copy)]
 pub struct Fates {
-    pub first: u8,
-    pub second: u8,
-    pub late: u8,
+    first: Option<u8>,
+    second: Option<u8>,
+    late: Option<u8>,
+}
+
+impl Fates {
+    // No move is still to come.
+    pub(crate) fn none() -> Self {
+        Fates {
+            first: None,
+            second: None,
+            late: None,
+        }
+    }
+
+    // The one move of a message of which no copy comes out.
+    fn one(fate: u8) -> Self {
+        Fates {
+            first: Some(fate),
+            ..Self::none()
+        }
+    }
+
+    // The fate of the next of the moves, if one is left.
+    pub(crate) fn next(self) -> Option<u8> {
+        self.first.or(self.second).or(self.late)
+    }
+
+    // The moves after the next one.
+    pub(crate) fn later(self) -> Self {
+        match self {
+            Fates { first: Some(_), .. } => Fates {
+                first: None,
+                ..self
+            },
+            Fates {
+                second: Some(_),
+                ..
+            } => Fates {
+                second: None,
+                ..self
+            },
+            _ => Self::none(),
+        }
+    }
 }
 
 // The generator's values are below this one.
 const VALUE_LIMIT: u64 = 4294967296;
 
-// No move is still to come.
-pub(crate) fn no_fates() -> Fates {
-    Fates {
-        first: 0,
-        second: 0,
-        late: 0,
-    }
-}
-
-// The fate of the next of the moves; 0 where none is left.
-pub(crate) fn next_fate(f: Fates) -> u8 {
-    if f.first != 0 {
-        return f.first;
-    }
-    if f.second != 0 {
-        return f.second;
-    }
-    f.late
-}
-
-// The moves after the next one.
-pub(crate) fn later_fates(f: Fates) -> Fates {
-    if f.first != 0 {
-        return Fates {
-            first: 0,
-            second: f.second,
-            late: f.late,
-        };
-    }
-    if f.second != 0 {
-        return Fates {
-            first: 0,
-            second: 0,
-            late: f.late,
-        };
-    }
-    no_fates()
-}
-
 // The fate of a message of which no copy came out: x lost, or r held, as the generator's value decided.
 fn kept_back(row: &[u64; ROW_SIZE]) -> u8 {
     let value = (row[VALUE_AT] % VALUE_LIMIT) as u32;
-    let decision = decide(value, 0);
-    match decision {
+    match decide(value, 0) {
         Decision::Hold => b'r',
         _ => b'x',
     }
@@ -68,36 +71,19 @@ fn kept_back(row: &[u64; ROW_SIZE]) -> u8 {
 
 // The fate of a message that comes out, p where it is a request, of which the second copy may have to be kept.
 fn passing(letter: u8) -> u8 {
-    if letter == b'F' {
-        return b'p';
-    }
-    b' '
-}
-
-// The one move of a message of which no copy comes out.
-fn one_fate(fate: u8) -> Fates {
-    Fates {
-        first: fate,
-        second: 0,
-        late: 0,
-    }
+    if letter == b'F' { b'p' } else { b' ' }
 }
 
 // The moves of a message of which so many copies come out, with the fate of the late one.
-fn fates_of(letter: u8, copies: u64, row: &[u64; ROW_SIZE], late: u8) -> Fates {
-    if copies == 0 {
-        return one_fate(kept_back(row));
-    }
-    if copies == 1 {
-        return Fates {
-            first: passing(letter),
-            second: 0,
-            late,
-        };
-    }
+fn fates_of(letter: u8, copies: u64, row: &[u64; ROW_SIZE], late: Option<u8>) -> Fates {
+    let second = match copies {
+        0 => return Fates::one(kept_back(row)),
+        1 => None,
+        _ => Some(b't'),
+    };
     Fates {
-        first: passing(letter),
-        second: b't',
+        first: Some(passing(letter)),
+        second,
         late,
     }
 }
@@ -111,13 +97,17 @@ pub(crate) fn put_message(
     store: &mut [u8; STORE_BYTES],
 ) -> Fates {
     let mut out = [0u8; MESSAGE_BYTES];
-    let answer = put_in(row, store, message_of(mail, letter, b' '), &mut out);
-    match answer {
-        PutAnswer::Out(copies) => fates_of(letter, copies, row, 0),
-        PutAnswer::OutAndHeld(copies, n) => {
+    match put_in(row, store, message_of(mail, letter, b' '), &mut out) {
+        Ok(Delivery { copies, held: None }) => fates_of(letter, copies, row, None),
+        Ok(
+            Delivery {
+                copies,
+                held: Some(n),
+            },
+        ) => {
             keep_late(mail, letter, front(&out, n));
-            fates_of(letter, copies, row, b'l')
+            fates_of(letter, copies, row, Some(b'l'))
         }
-        PutAnswer::WrongLength => one_fate(b'x'),
+        Err(WrongLength) => Fates::one(b'x'),
     }
 }

@@ -3,20 +3,20 @@
 use crate::script::{MOVES_C, Move, SIGNINGS, byte_at, order_of, signature_of, terms_of};
 use bank_state::limits::{ID_BYTES, IDLE_LIMIT, REPLY_ROOM};
 use frame_table::fields::Bits128;
-use frame_writer::writer::{Written, write};
+use frame_writer::writer::write;
 use message::order_numbers::order_number_of;
 use message::requests::signing;
 use octets::bytes::{behind, copy, front};
 use print::text::put_digits;
 use unit_state::answer::Answer;
 use unit_state::record::{
-    EDITION_AT, EDITION_BYTES, EXTENT_BYTES, FIRST_BYTES, IDS_AT, LETTER_BYTES, MAILBOX_BYTES,
-    ORDER_AT, ORDER_BYTES, ROOM_BYTES, RUN_BYTES, SUBSCRIBER_AT, SUBSCRIBER_BYTES, TIME_BYTES,
-    UPLOAD_HEAD, lent_length,
+    BANK_TIME_AT, EDITION_AT, EDITION_BYTES, EXTENT_AT, EXTENT_BYTES, FIRST_AT, FIRST_BYTES,
+    IDS_AT, LETTER_BYTES, MAILBOX_AT, MAILBOX_BYTES, ORDER_AT, ORDER_BYTES, ROOM_BYTES, RUN_BYTES,
+    RUN_NUMBER_AT, SUBSCRIBER_AT, SUBSCRIBER_BYTES, TIME_AT, TIME_BYTES, UPLOAD_HEAD, lent_length,
 };
 
-// Thursday 28 March 2024, 15:59:26, the last business day before Easter, in milliseconds. Each move comes a second after
-// the one before it, the first a second after that time, and the 34th at 16:00.
+// Thursday 28 March 2024, 15:59:26, the last business day before Easter, in milliseconds. Each move comes a second
+// after the one before it, the first a second after that time, and the 34th at 16:00.
 const TIME: u64 = 1711641566000;
 
 const SECOND: u64 = 1000;
@@ -38,8 +38,8 @@ const BEGIN_AT: usize = ORDER_AT + ORDER_BYTES;
 
 const CALL_AT: usize = SUBSCRIBER_AT;
 
-// The places of the messages: each is its length in two bytes, and its bytes. After them the record that takes up the
-// image, but for its letter.
+// The places of the messages in the lent array that holds them all: each is its length in two bytes, and its bytes.
+// After them the record that takes up the image, but for its letter.
 const REQUEST_AT: usize = 0;
 
 const REPLY_AT: usize = REQUEST_AT + 2 + REPLY_ROOM;
@@ -57,10 +57,8 @@ pub const MAIL_BYTES: usize = IMAGE_AT + LETTER_BYTES + EXTENT_BYTES;
 // Bytes that differ from their neighbours, so that a misplaced part shows.
 pub fn example_text() -> [u8; TEXT_BYTES] {
     let mut text = [0u8; TEXT_BYTES];
-    let mut i = 0;
-    while i < TEXT_BYTES {
-        text[i] = (i % 251) as u8;
-        i += 1;
+    for (i, b) in text.iter_mut().enumerate() {
+        *b = (i % 251) as u8;
     }
     text
 }
@@ -68,15 +66,12 @@ pub fn example_text() -> [u8; TEXT_BYTES] {
 // The bytes of a run's order, its payload or its statement, as a part of the text.
 pub fn content_of(text: &[u8], run: u8) -> &[u8] {
     let o = order_of(run);
-    front(behind(text, run as usize), o.bytes as usize)
+    front(behind(text, usize::from(run)), usize::from(o.bytes))
 }
 
 // Writes a number of w bytes, where it has room.
 fn put_number(record: &mut [u8], at: usize, w: usize, x: u64) {
-    if record.len() < w {
-        return;
-    }
-    if at <= record.len() - w {
+    if w <= record.len() && at <= record.len() - w {
         put_digits(record, at, 256, 0, w, x);
     }
 }
@@ -87,10 +82,7 @@ fn put_body(record: &mut [u8], at: usize, body: &[u8]) {
         return;
     }
     let room = record.len() - 2;
-    if room < body.len() {
-        return;
-    }
-    if at <= room - body.len() {
+    if body.len() <= room && at <= room - body.len() {
         put_number(record, at, 2, body.len() as u64);
         copy(record, at + 2, body);
     }
@@ -99,78 +91,15 @@ fn put_body(record: &mut [u8], at: usize, body: &[u8]) {
 // The bytes that stand at a place after their length.
 fn body_at(s: &[u8], at: usize) -> &[u8] {
     let b = behind(s, at);
-    let size = byte_at(b, 0) as usize * 256 + byte_at(b, 1) as usize;
+    let size = usize::from(byte_at(b, 0)) * 256 + usize::from(byte_at(b, 1));
     front(behind(b, 2), size)
-}
-
-// What stands before the body of a record: the letter with the run or the mailbox, in so many bytes, after them the time
-// or a length in the image room, in so many bytes, and a begin's order.
-#[derive(Clone, Copy)]
-struct Head {
-    pub name: u64,
-    pub named: usize,
-    pub number: u64,
-    pub width: usize,
-    pub order: u64,
-    pub body: usize,
-}
-
-// The head of a move's record; the bank's ID bytes and the nonce bytes are 0, and a run's first exchange number is its
-// number in hundreds. The session is put away into the whole image room, and taken up from this many bytes of it.
-fn head_of(letter: u8, run: u8, time: u64, image: u64) -> Head {
-    let o = order_of(run);
-    let subscriber = o.subscriber as u64;
-    let first = letter as u64;
-    let called = first * 256 + run as u64;
-    match letter {
-        b'M' => Head {
-            name: first * 65536 + subscriber,
-            named: LETTER_BYTES + MAILBOX_BYTES,
-            number: 0,
-            width: 0,
-            order: 0,
-            body: LETTER_BYTES + MAILBOX_BYTES,
-        },
-        b'F' | b'G' => Head {
-            name: b'F' as u64,
-            named: LETTER_BYTES,
-            number: time,
-            width: TIME_BYTES,
-            order: 0,
-            body: FRAME_AT,
-        },
-        b'P' | b'T' => Head {
-            name: first,
-            named: LETTER_BYTES,
-            number: image,
-            width: EXTENT_BYTES,
-            order: 0,
-            body: LETTER_BYTES + EXTENT_BYTES,
-        },
-        b'U' | b'D' => Head {
-            name: called,
-            named: LETTER_BYTES + RUN_BYTES,
-            number: time,
-            width: TIME_BYTES,
-            order: subscriber * 4294967296 + run as u64 * 100,
-            body: BEGIN_AT,
-        },
-        _ => Head {
-            name: called,
-            named: LETTER_BYTES + RUN_BYTES,
-            number: time,
-            width: TIME_BYTES,
-            order: 0,
-            body: CALL_AT,
-        },
-    }
 }
 
 // The time of a move; there are fewer than a thousand. Those after exercise C come over an hour later too, as exercise
 // D's clock is that of the late copy.
 fn time_of(m: Move) -> u64 {
     let time = TIME + SECOND * (m.number % 1000);
-    if m.hour == b'H' || (MOVES_C as u64) < m.number {
+    if m.hour == b'H' || u64::from(MOVES_C) < m.number {
         return time + HOUR;
     }
     time
@@ -184,58 +113,78 @@ fn image_of(mail: &[u8], letter: u8) -> u64 {
     ROOM_BYTES as u64
 }
 
-// Writes what an upload run is told at begin.
-fn put_terms(record: &mut [u8], letter: u8, run: u8) {
-    if letter == b'U' {
-        let t = terms_of(run);
+// Writes a call to a run but for its body: the letter, the run, and the time of the call.
+fn put_call(record: &mut [u8], m: Move) {
+    put_number(record, RUN_NUMBER_AT, RUN_BYTES, u64::from(m.run));
+    put_number(record, TIME_AT, TIME_BYTES, time_of(m));
+}
+
+// Writes what a run is told at begin; its first exchange number is its number in hundreds, and the nonce bytes are 0.
+fn put_begin(record: &mut [u8], m: Move) {
+    put_call(record, m);
+    let subscriber = u64::from(order_of(m.run).subscriber);
+    put_number(record, SUBSCRIBER_AT, SUBSCRIBER_BYTES, subscriber);
+    put_number(record, FIRST_AT, FIRST_BYTES, u64::from(m.run) * 100);
+    if m.letter == b'U' {
+        let t = terms_of(m.run);
         put_number(record, EDITION_AT, EDITION_BYTES, t.edition);
         put_number(record, ORDER_AT, ORDER_BYTES, t.number);
     }
 }
 
+// Writes what stands before the body of a move's record, behind its letter, and gives the body's place. The bank's ID
+// bytes are 0. The session is put away into the whole image room, and taken up from this many bytes of it.
+fn put_head(record: &mut [u8], m: Move, image: u64) -> usize {
+    match m.letter {
+        b'M' => {
+            let mailbox = u64::from(order_of(m.run).subscriber);
+            put_number(record, MAILBOX_AT, MAILBOX_BYTES, mailbox);
+            MAILBOX_AT + MAILBOX_BYTES
+        }
+        b'F' | b'G' => {
+            put_number(record, BANK_TIME_AT, TIME_BYTES, time_of(m));
+            FRAME_AT
+        }
+        b'P' | b'T' => {
+            put_number(record, EXTENT_AT, EXTENT_BYTES, image);
+            EXTENT_AT + EXTENT_BYTES
+        }
+        b'U' | b'D' => {
+            put_begin(record, m);
+            BEGIN_AT
+        }
+        _ => {
+            put_call(record, m);
+            CALL_AT
+        }
+    }
+}
+
+// The letter with which the record of a move begins: a signing goes to the bank as a request does.
+fn letter_of(letter: u8) -> u8 {
+    if letter == b'G' { b'F' } else { letter }
+}
+
 // Writes the record of a move, whose body this is. A message that is lost or that a line holds, and the reply to a
 // signing, which no client run waits for, make no call: their record is empty.
 fn put_record(record: &mut [u8], m: Move, image: u64, body: &[u8]) {
-    if m.fate == b'x' || m.fate == b'r' || m.letter == b'Q' {
+    if matches!(m.fate, b'x' | b'r') || m.letter == b'Q' {
         return;
     }
-    let h = head_of(m.letter, m.run, time_of(m), image);
-    put_number(record, 0, h.named, h.name);
-    put_number(record, h.named, h.width, h.number);
-    put_number(
-        record,
-        SUBSCRIBER_AT,
-        SUBSCRIBER_BYTES + FIRST_BYTES,
-        h.order,
-    );
-    put_terms(record, m.letter, m.run);
-    put_body(record, h.body, body);
+    put_number(record, 0, LETTER_BYTES, u64::from(letter_of(m.letter)));
+    let at = put_head(record, m, image);
+    put_body(record, at, body);
 }
 
-// The place of a reply, and of a request, to which this happens.
-fn reply_place(fate: u8) -> usize {
-    if fate == b'l' {
-        return LATE_AT;
-    }
-    REPLY_AT
-}
-
-fn request_place(fate: u8) -> usize {
-    if fate == b'l' {
-        return COPY_AT;
-    }
-    if fate == b't' {
-        return SENT_AT;
-    }
-    REQUEST_AT
-}
-
-// The place of a move's message.
+// The place of the message of a move with this letter and this fate.
 fn place_of(letter: u8, fate: u8) -> usize {
-    if letter == b'R' || letter == b'Q' {
-        return reply_place(fate);
+    match (letter, fate) {
+        (b'R' | b'Q', b'l') => LATE_AT,
+        (b'R' | b'Q', _) => REPLY_AT,
+        (_, b'l') => COPY_AT,
+        (_, b't') => SENT_AT,
+        _ => REQUEST_AT,
     }
-    request_place(fate)
 }
 
 // The message of a move with this letter and this fate.
@@ -251,12 +200,10 @@ pub fn keep_late(mail: &mut [u8], letter: u8, message: &[u8]) {
 // Writes the record of a move: its body is the content of an order, or a message. What follows a record without one is
 // not read.
 pub fn put_move(record: &mut [u8], m: Move, mail: &[u8]) {
-    let letter = m.letter;
-    let image = image_of(mail, letter);
-    let text = example_text();
-    match letter {
-        b'F' | b'G' | b'R' => put_record(record, m, image, message_of(mail, letter, m.fate)),
-        _ => put_record(record, m, image, content_of(&text, m.run)),
+    let image = image_of(mail, m.letter);
+    match m.letter {
+        b'F' | b'G' | b'R' => put_record(record, m, image, message_of(mail, m.letter, m.fate)),
+        _ => put_record(record, m, image, content_of(&example_text(), m.run)),
     }
 }
 
@@ -272,18 +219,15 @@ pub fn put_signing(mail: &mut [u8], m: Move) {
     };
     let fields = signing(
         s.subscriber,
-        SIGNINGS + m.run as u64,
+        SIGNINGS + u64::from(m.run),
         nonce,
         time_of(m),
         order_number_of(s.number),
         s.owner,
     );
-    let none = [0u8; 1];
     let mut frame = [0u8; REPLY_ROOM];
-    let written = write(fields, front(&none, 0), &mut frame);
-    match written {
-        Written::Length(n) => put_body(mail, REQUEST_AT, front(&frame, n)),
-        Written::Refused => (),
+    if let Ok(n) = write(fields, &[], &mut frame) {
+        put_body(mail, REQUEST_AT, front(&frame, n));
     }
 }
 
@@ -299,10 +243,10 @@ fn keep_written(mail: &mut [u8], answer: Answer, buffer: &[u8]) {
 
 // Keeps a copy of the request in a record, where it is held back, and where a second copy may come out of its line.
 fn hold_back(mail: &mut [u8], fate: u8, record: &[u8]) {
-    if fate == b'c' {
-        put_body(mail, COPY_AT, body_at(record, FRAME_AT));
-    } else if fate == b'p' {
-        put_body(mail, SENT_AT, body_at(record, FRAME_AT));
+    match fate {
+        b'c' => put_body(mail, COPY_AT, body_at(record, FRAME_AT)),
+        b'p' => put_body(mail, SENT_AT, body_at(record, FRAME_AT)),
+        _ => (),
     }
 }
 

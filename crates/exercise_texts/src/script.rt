@@ -14,32 +14,14 @@ pub struct Order {
 
 // The order of a client run; that of the first where there is no such run.
 pub fn order_of(run: u8) -> Order {
-    match run {
-        2 => Order {
-            subscriber: 2,
-            bytes: 300,
-        },
-        3 => Order {
-            subscriber: 1,
-            bytes: 700,
-        },
-        4 => Order {
-            subscriber: 3,
-            bytes: 300,
-        },
-        5 => Order {
-            subscriber: 2,
-            bytes: 600,
-        },
-        6 => Order {
-            subscriber: 4,
-            bytes: 300,
-        },
-        _ => Order {
-            subscriber: 1,
-            bytes: 700,
-        },
-    }
+    let (subscriber, bytes) = match run {
+        2 => (2, 300),
+        4 => (3, 300),
+        5 => (2, 600),
+        6 => (4, 300),
+        _ => (1, 700),
+    };
+    Order { subscriber, bytes }
 }
 
 // What an upload run is told at begin, as its record has it: its edition, 1 for 2.4 and 0 for 2.5, and the order number
@@ -53,15 +35,15 @@ pub struct Terms {
 // The first run is of edition 2.4 and brings A000, which the bank then passes over for its subscriber; the others leave
 // the number to the bank.
 pub fn terms_of(run: u8) -> Terms {
-    match run {
-        1 => Terms {
+    if run == 1 {
+        return Terms {
             edition: 1,
             number: order_number_of(0),
-        },
-        _ => Terms {
-            edition: 0,
-            number: 0,
-        },
+        };
+    }
+    Terms {
+        edition: 0,
+        number: 0,
     }
 }
 
@@ -96,32 +78,27 @@ pub const SIGNINGS: u64 = 700;
 // A signing, numbered from 1: of the owner, of another subscriber, of that one again, of an order that is not in the
 // book, and of a third subscriber with the second signing's nonce.
 pub fn signature_of(n: u8) -> Signature {
-    let own = SIGNINGS + n as u64;
+    let second = Signature {
+        subscriber: 2,
+        owner: 1,
+        number: 0,
+        nonce: SIGNINGS + u64::from(n),
+    };
     match n {
         1 => Signature {
             subscriber: 1,
-            owner: 1,
-            number: 0,
-            nonce: own,
+            ..second
         },
         4 => Signature {
-            subscriber: 2,
-            owner: 1,
             number: 2,
-            nonce: own,
+            ..second
         },
         5 => Signature {
             subscriber: 3,
-            owner: 1,
-            number: 0,
             nonce: SIGNINGS + 2,
+            ..second
         },
-        _ => Signature {
-            subscriber: 2,
-            owner: 1,
-            number: 0,
-            nonce: own,
-        },
+        _ => second,
     }
 }
 
@@ -145,7 +122,8 @@ pub const MOVES: u8 = MOVES_C + 10;
 const MOVE_BYTES: usize = 4;
 
 // A move: its number, from 1 on, its letter, its client run or signing, what becomes of its message, whether it comes
-// over an hour later, and whether its request repeats one: no reply came just before, and it is no late copy.
+// over an hour later, and whether its request repeats one: no reply came just before, and it is no late copy. The
+// letters are bytes, since the script's text has them, and since a record begins with that of its move.
 #[derive(Clone, Copy)]
 pub struct Move {
     pub number: u64,
@@ -158,18 +136,15 @@ pub struct Move {
 
 // Byte i of a text; 0 after its end.
 pub fn byte_at(s: &[u8], i: usize) -> u8 {
-    if i < s.len() {
-        return s[i];
-    }
-    0
+    s.get(i).copied().unwrap_or(0)
 }
 
 // Move i, from 0 on, of a script that begins with a blank move.
 fn move_in(script: &[u8], i: u8) -> Move {
-    let s = behind(script, i as usize * MOVE_BYTES);
+    let s = behind(script, usize::from(i) * MOVE_BYTES);
     let fate = byte_at(s, MOVE_BYTES + 2);
     Move {
-        number: i as u64 + 1,
+        number: u64::from(i) + 1,
         letter: byte_at(s, MOVE_BYTES),
         run: byte_at(s, MOVE_BYTES + 1) % 16,
         fate,
@@ -178,7 +153,7 @@ fn move_in(script: &[u8], i: u8) -> Move {
     }
 }
 
-// Move i of the exercises, from 0 on.
+// Move i of the exercises, from 0 on: an index, since the move's number and the headings follow from it.
 pub fn move_at(i: u8) -> Move {
     move_in(
         b"    \

@@ -1,4 +1,5 @@
 -- The results on frames: the round trip both ways, forms that exclude each other, and lengths. Assumes nothing.
+use Rattle.std.specs.Prelude.{Ok}
 use Prim.Native.Nat.{ℕ, ◌≤◌, ◌<◌}
 use mathlib.Core.List.{List, [], ◌∷◌}
 use mathlib.Core.Bool.{Bool, true, false, cond}
@@ -11,7 +12,6 @@ use Rattle.frame_table.specs.declared.table.Form.{Form}
 use Rattle.frame_table.specs.declared.table.Form.TheVariants.{NoForm}
 use Rattle.frame_table.specs.Forms as forms
 use Rattle.octets.specs.Bytes.{Bytes, number_from, number, bytes_of, field_bytes}
-use Rattle.frame_writer.specs.declared.writer.Written.TheVariants.{Length}
 use Rattle.frame_table.specs.Table.{
   tag_count,
   phase_tag,
@@ -113,7 +113,7 @@ module _ (f : Fields) (d : List ℕ) (long : Sized f) (h : writable f d ≡ true
   written-as-reply = written_as is_reply_form
 
 -- the same from the front of the buffer, where the writer answered a length
-module _ (f : Fields) (d old : List ℕ) (n : ℕ) (long : Sized f) (h : write_answer f d old ≡ Length n) where
+module _ (f : Fields) (d old : List ℕ) (n : ℕ) (long : Sized f) (h : write_answer f d old ≡ Ok n) where
   pub data-read : data_of (take n (write_buffer f d old)) ≡ d
   data-read = let w = written-front f d old n h in ap data_of w.1 ∙ written-data f d long w.0
 

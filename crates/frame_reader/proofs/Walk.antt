@@ -167,12 +167,42 @@ zero-absent s =
     absurd (omega (arith, leb-true 1 (number (content 0 s)) a.0, leb-true (number (content 0 s)) 0 a.1)))
     (size-cases 0 s)
 
-pub read-start : (s : List ℕ) → Read s 1 no_fields s
+read-start : (s : List ℕ) → Read s 1 no_fields s
 unfolding contents behind present_tags each_from with_field
 read-start s =
     let none : Read s 0 no_fields s = record { fields = refl; left = refl } in
     let zeros : List ℕ = replicate tag_count 0 in
     read_next none (omega arith) (field-absent 0 s 0 zeros zeros (omega arith) (zero-absent s))
+
+read-first : {s : List ℕ} {f : Fields} → f ≡ no_fields → Read s 1 f s
+read-first {s} e = let r = read-start s in record { fields = e ∙ r.fields; left = r.left }
+
+-- the ten tags before the data, read one behind the other
+pub read_to_data : {s : List ℕ} {f0 f1 f2 f3 f4 f5 f6 f7 f8 f9 f10 : Fields}
+    {r1 r2 r3 r4 r5 r6 r7 r8 r9 r10 : List ℕ} → f0 ≡ no_fields
+    → FieldRead 1 s f0 f1 r1
+    → FieldRead 2 r1 f1 f2 r2
+    → FieldRead 3 r2 f2 f3 r3
+    → FieldRead 4 r3 f3 f4 r4
+    → FieldRead 5 r4 f4 f5 r5
+    → FieldRead 6 r5 f5 f6 r6
+    → FieldRead 7 r6 f6 f7 r7
+    → FieldRead 8 r7 f7 f8 r8
+    → FieldRead 9 r8 f8 f9 r9
+    → FieldRead 10 r9 f9 f10 r10
+    → Read s data_tag f10 r10
+read_to_data {s} e q1 q2 q3 q4 q5 q6 q7 q8 q9 q10 =
+    let n1 = read-first e in
+    let n2 = read_next n1 (omega arith) q1 in
+    let n3 = read_next n2 (omega arith) q2 in
+    let n4 = read_next n3 (omega arith) q3 in
+    let n5 = read_next n4 (omega arith) q4 in
+    let n6 = read_next n5 (omega arith) q5 in
+    let n7 = read_next n6 (omega arith) q6 in
+    let n8 = read_next n7 (omega arith) q7 in
+    let n9 = read_next n8 (omega arith) q8 in
+    let n10 = read_next n9 (omega arith) q9 in
+    read_next n10 (omega arith) q10
 
 pub read-end : {s : List ℕ} {f : Fields} {rest : List ℕ} → Read s tag_count f rest → f ≡ fields_of (contents tag_count 0 s)
 unfolding fields_of

@@ -2,14 +2,14 @@
 ghost use Rattle.std.specs.Prelude.{◌≡◌, cond, ◌&&◌, ◌⊎◌, ◌+◌, ◌-◌, ◌^◌, ◌≤◌, ◌<◌, length, leb, eqb};
 ghost use Rattle.frame_table.specs.Table.{tag_count, frame_limit, width};
 ghost use Rattle.frame_row.specs.Row.{field_size, high_of, low_of, data_of, DataAt};
-ghost use Rattle.frame_reader.specs.Reader.{said, FieldRead, parse, read_request, read_reply};
+ghost use Rattle.frame_reader.specs.Reader.{FieldRead, parse, read_request, read_reply};
 ghost use Rattle.frame_table.specs.Names.{no_fields};
 
 use frame_row::content::well_formed;
 use frame_table::fields::{Bits128, Fields};
 use frame_table::table;
-use frame_table::table::{FRAME_LIMIT, TAG_COUNT, is_reply_form, is_request_form, width};
-use octets::bytes::{leading, wide};
+use frame_table::table::{FRAME_LIMIT, is_reply_form, is_request_form, width};
+use octets::bytes::leading;
 
 // What a frame says, and where its data stand in it: from a place on to the end.
 #[derive(Clone, Copy)]
@@ -19,7 +19,8 @@ pub struct Parsed {
     pub end: usize,
 }
 
-// How many bytes the field with this tag takes at the front of rest; 0 where no such field stands there.
+// How many bytes the field with this tag takes at the front of rest; 0 and no None where no such field stands there, as
+// the definition of that name has it.
 fn field_size(rest: &[u8], tag: usize) -> usize
     requires { tag < tag_count }
     ensures { result ≡ field_size tag rest.now }
@@ -27,21 +28,14 @@ fn field_size(rest: &[u8], tag: usize) -> usize
     if rest.len() < 3 + width(tag) {
         return 0;
     }
-    if wide(rest[0]) != tag as u64 {
+    if usize::from(rest[0]) != tag {
         return 0;
     }
-    let n = 3 + wide(rest[1]) as usize * 256 + wide(rest[2]) as usize;
+    let n = 3 + usize::from(rest[1]) * 256 + usize::from(rest[2]);
     if rest.len() < n {
         return 0;
     }
     if well_formed(tag, &rest[3..n]) { n } else { 0 }
-}
-
-// How many of n bytes stand before the last eight.
-fn before_eight(n: usize) -> usize
-    ensures { result ≡ n - 8 }
-{
-    if n < 8 { 0 } else { n - 8 }
 }
 
 // The number that the content of the field stands for, as long as the table says. Data, which have no length there, are
@@ -51,7 +45,7 @@ fn value(tag: usize, content: &[u8]) -> Bits128
     ensures { (result.high ≡ high_of tag content.now) × (result.low ≡ low_of tag content.now) }
 {
     let n = width(tag);
-    let k = before_eight(n);
+    let k = n.saturating_sub(8);
     Bits128 {
         high: leading(content, k),
         low: leading(&content[k..], n - k),
@@ -59,25 +53,18 @@ fn value(tag: usize, content: &[u8]) -> Bits128
 }
 
 // Reads the field with this tag where it stands at the front of rest, and goes on to what stands behind it.
-fn read_field<'a>(
-    rest: &'a [u8],
-    tag: usize,
-    tags: &mut u32,
-    high: &mut [u64; TAG_COUNT],
-    low: &mut [u64; TAG_COUNT],
-) -> &'a [u8]
-    requires { (tag < tag_count) × (tags.old < 2 ^ tag) }
-    ensures { FieldRead tag rest.now (said tags.old high.old low.old)
-        (said tags.new high.new low.new) result.now }
+fn read_field<'a>(rest: &'a [u8], tag: usize, fields: &mut Fields) -> &'a [u8]
+    requires { (tag < tag_count) × (fields.old.tags < 2 ^ tag) }
+    ensures { FieldRead tag rest.now fields.old fields.new result.now }
 {
     let n = field_size(rest, tag);
     if n == 0 {
         return rest;
     }
     let v = value(tag, &rest[3..n]);
-    *tags = *tags + (1 << tag);
-    high[tag] = v.high;
-    low[tag] = v.low;
+    fields.tags += 1 << tag;
+    fields.high[tag] = v.high;
+    fields.low[tag] = v.low;
     &rest[n..]
 }
 
@@ -100,10 +87,7 @@ fn fields_if(test: bool, fields: Fields) -> Fields
 fn is_whole(n: usize, left: usize) -> bool
     ensures { result ≡ (leb n frame_limit && eqb left 0) }
 {
-    if FRAME_LIMIT < n {
-        return false;
-    }
-    left == 0
+    n <= FRAME_LIMIT && left == 0
 }
 
 // What the frame says, no fields where it is no row of fields as the table has them, and where its data stand. The tags
@@ -111,34 +95,28 @@ fn is_whole(n: usize, left: usize) -> bool
 fn parse(frame: &[u8]) -> Parsed
     ensures { (result.fields ≡ parse frame.now) × DataAt frame.now result.from result.end }
 {
-    let mut tags: u32 = 0;
-    let mut high = [0u64; TAG_COUNT];
-    let mut low = [0u64; TAG_COUNT];
-    let rest = read_field(frame, table::PHASE, &mut tags, &mut high, &mut low);
-    let rest = read_field(rest, table::SUBSCRIBER, &mut tags, &mut high, &mut low);
-    let rest = read_field(rest, table::EXCHANGE, &mut tags, &mut high, &mut low);
-    let rest = read_field(rest, table::ORDER_TYPE, &mut tags, &mut high, &mut low);
-    let rest = read_field(rest, table::NONCE, &mut tags, &mut high, &mut low);
-    let rest = read_field(rest, table::TIMESTAMP, &mut tags, &mut high, &mut low);
-    let rest = read_field(rest, table::SEGMENTS, &mut tags, &mut high, &mut low);
-    let rest = read_field(rest, table::TRANSACTION, &mut tags, &mut high, &mut low);
-    let rest = read_field(rest, table::SEGMENT, &mut tags, &mut high, &mut low);
-    let rest = read_field(rest, table::LAST_MARK, &mut tags, &mut high, &mut low);
+    let mut fields = Fields::none();
+    let rest = read_field(frame, table::PHASE, &mut fields);
+    let rest = read_field(rest, table::SUBSCRIBER, &mut fields);
+    let rest = read_field(rest, table::EXCHANGE, &mut fields);
+    let rest = read_field(rest, table::ORDER_TYPE, &mut fields);
+    let rest = read_field(rest, table::NONCE, &mut fields);
+    let rest = read_field(rest, table::TIMESTAMP, &mut fields);
+    let rest = read_field(rest, table::SEGMENTS, &mut fields);
+    let rest = read_field(rest, table::TRANSACTION, &mut fields);
+    let rest = read_field(rest, table::SEGMENT, &mut fields);
+    let rest = read_field(rest, table::LAST_MARK, &mut fields);
     let at = frame.len() - rest.len();
-    let rest = read_field(rest, table::DATA, &mut tags, &mut high, &mut low);
+    let rest = read_field(rest, table::DATA, &mut fields);
     let end = frame.len() - rest.len();
-    let rest = read_field(rest, table::RECEIPT_CODE, &mut tags, &mut high, &mut low);
-    let rest = read_field(rest, table::RETURN_CODE, &mut tags, &mut high, &mut low);
-    let rest = read_field(rest, table::ORDER_NUMBER, &mut tags, &mut high, &mut low);
-    let rest = read_field(rest, table::ORDER_ATTRIBUTE, &mut tags, &mut high, &mut low);
-    let rest = read_field(rest, table::OWNER, &mut tags, &mut high, &mut low);
-    let rest = read_field(rest, table::VERSION, &mut tags, &mut high, &mut low);
-    let fields = fields_if(
-        is_whole(frame.len(), rest.len()),
-        Fields { tags, high, low },
-    );
+    let rest = read_field(rest, table::RECEIPT_CODE, &mut fields);
+    let rest = read_field(rest, table::RETURN_CODE, &mut fields);
+    let rest = read_field(rest, table::ORDER_NUMBER, &mut fields);
+    let rest = read_field(rest, table::ORDER_ATTRIBUTE, &mut fields);
+    let rest = read_field(rest, table::OWNER, &mut fields);
+    let rest = read_field(rest, table::VERSION, &mut fields);
     Parsed {
-        fields,
+        fields: fields_if(is_whole(frame.len(), rest.len()), fields),
         from: content_at(at, end),
         end,
     }
@@ -149,12 +127,9 @@ pub fn read_whole_request(frame: &[u8]) -> Parsed
     ensures { (result.fields ≡ read_request frame.now) × DataAt frame.now result.from result.end }
 {
     let p = parse(frame);
-    let said = p.fields;
-    let fields = fields_if(is_request_form(said.form()), said);
     Parsed {
-        fields,
-        from: p.from,
-        end: p.end,
+        fields: fields_if(is_request_form(p.fields.form()), p.fields),
+        ..p
     }
 }
 
@@ -162,16 +137,14 @@ pub fn read_whole_request(frame: &[u8]) -> Parsed
 pub fn read_request(frame: &[u8]) -> Fields
     ensures { result ≡ read_request frame.now }
 {
-    let p = read_whole_request(frame);
-    p.fields
+    read_whole_request(frame).fields
 }
 
 // What a reply says; no fields where the frame is of no reply form.
 pub fn read_reply(frame: &[u8]) -> Fields
     ensures { result ≡ read_reply frame.now }
 {
-    let p = parse(frame);
-    let fields = p.fields;
+    let fields = parse(frame).fields;
     fields_if(is_reply_form(fields.form()), fields)
 }
 

@@ -7,10 +7,11 @@ use mathlib.Core.Path.{◌≡◌, refl, sym, ap, ◌∙◌}
 use native.Mathlib.Nat.{add-zero, add-suc, suc-add, mul_assoc, pow-suc}
 use native.Mathlib.Numerals.{add-one}
 use native.Mathlib.Omega.{arith}
-use lib.ListN.{drop_of_length-le, length, get_or, take, drop, length-drop}
+use lib.ListN.{length, get_or, take, drop, length-drop}
 use borrow.Author.Tests.{leb-true, eqb-true, eqb-false, ne_eqb, eq-eqb, not-true}
-use lib.Seq.{drop-cons, length-take-le}
+use lib.Seq.{length-take-le}
 use lib.Dec.{leb, eqb}
+use Rattle.std.specs.List.{list_all}
 use Rattle.octets.specs.Bytes.{field_bytes}
 use Rattle.frame_table.specs.declared.table.Characters.{Characters}
 use Rattle.frame_table.specs.declared.table.Values.{Values}
@@ -38,14 +39,10 @@ use Rattle.octets.proofs.Numbers.{number-nil, length-field_bytes}
 
 -- ---- a content
 
-module _ (x : Characters) (c : List ℕ) (i : ℕ) where
-  pub spelled_step : i < length c → spelled x (drop i c) ≡ (allowed x (get_or c i 0) && spelled x (drop (i + 1) c))
-  unfolding spelled
-  spelled_step h = rw (add-one i, drop-cons c i 0 h)
-
-  pub spelled-end : length c ≤ i → spelled x (drop i c) ≡ true
-  unfolding spelled
-  spelled-end h = rw (drop_of_length-le c {i = i} h)
+pub spelled-all : (x : Characters) (c : List ℕ) → spelled x c ≡ list_all (allowed x) c
+unfolding spelled
+spelled-all x [] = refl
+spelled-all x (b ∷ c) = ap (λ (r : Bool). allowed x b && r) (spelled-all x c)
 
 -- in a list of any bytes is every content, in a range or a text those that are
 pub listed-as : (t : ℕ) (c : List ℕ) (v : Values) → values_of t ≡ v → listed t c ≡ is_value v c

@@ -10,14 +10,7 @@ use octets::bytes::number;
 pub fn spelled(characters: Characters, text: &[u8]) -> bool
     ensures { result ≡ spelled characters text.now }
 {
-    let mut i = 0;
-    while i < text.len() {
-        if !allowed(characters, text[i]) {
-            return false;
-        }
-        i += 1;
-    }
-    true
+    text.iter().all(|b| allowed(characters, *b))
 }
 
 // Whether the content is in the value list of the tag.
@@ -25,8 +18,7 @@ fn listed(tag: usize, content: &[u8]) -> bool
     requires { (tag < tag_count) × ((width tag ≡ 0 → ⊥) → length content.now ≡ width tag) }
     ensures { result ≡ listed tag content.now }
 {
-    let values = values_of(tag);
-    match values {
+    match values_of(tag) {
         Values::Any => true,
         Values::Range(least, greatest) => in_range(least, greatest, number(content)),
         Values::Text(characters) => spelled(characters, content),
@@ -34,23 +26,12 @@ fn listed(tag: usize, content: &[u8]) -> bool
 }
 
 // Whether this can be the content of a field with this tag.
+#[tactic(auto, unfolding(crate::specs::Row::well_formed))]
 pub fn well_formed(tag: usize, content: &[u8]) -> bool
     requires { tag < tag_count }
     ensures { result ≡ well_formed tag content.now }
 {
     let n = content.len();
     let w = width(tag);
-    if FRAME_LIMIT < n {
-        return false;
-    }
-    if n == 0 {
-        return false;
-    }
-    if w == 0 {
-        return listed(tag, content);
-    }
-    if n != w {
-        return false;
-    }
-    listed(tag, content)
+    n <= FRAME_LIMIT && n != 0 && (w == 0 || n == w) && listed(tag, content)
 }

@@ -5,7 +5,7 @@ ghost use Rattle.frame_table.specs.Names.{no_fields};
 ghost use Rattle.frame_table.specs.Names.{phase, subscriber, exchange, order_type, nonce, timestamp, segments};
 ghost use Rattle.frame_table.specs.Names.{transaction, segment};
 ghost use Rattle.frame_table.specs.Names.{last_mark, receipt_code, return_code, order_number, owner, form, with_tag};
-ghost use Rattle.frame_table.specs.Names.{with, with_wide, same_bits};
+ghost use Rattle.frame_table.specs.Names.{with, with_wide};
 
 use crate::table::{
     EXCHANGE, Form, LAST_MARK, NONCE, ORDER_NUMBER, ORDER_TYPE, OWNER, PHASE, RECEIPT_CODE,
@@ -13,28 +13,19 @@ use crate::table::{
 };
 
 // 16 bytes as two numbers: a transaction ID or a nonce.
-#[derive(Clone, Copy)]
+#[derive(Clone, Copy, PartialEq, Eq)]
 pub struct Bits128 {
     pub high: u64,
     pub low: u64,
 }
 
 // Which tags stand (bit t for tag t), and their numbers, 64 bits high and 64 low; 0 where a tag is absent, and for
-// the data.
+// the data. Two arrays, since the definitions of other crates name the two lists (`read_to` of the frame's reader).
 #[derive(Clone, Copy)]
 pub struct Fields {
     pub tags: u32,
     pub high: [u64; TAG_COUNT],
     pub low: [u64; TAG_COUNT],
-}
-
-pub fn same(a: Bits128, b: Bits128) -> bool
-    ensures { result ≡ same_bits a b }
-{
-    if a.high != b.high {
-        return false;
-    }
-    a.low == b.low
 }
 
 // Whether the tag is in the set.
@@ -45,15 +36,16 @@ pub fn has(tags: u32, tag: usize) -> bool
     (tags >> tag) % 2 == 1
 }
 
-// The set with the tag in it.
+// The set with the tag in it: by a sum, as the definition has it, since the bit is not set there.
 fn with_tag(tags: u32, tag: usize) -> u32
     requires { tag < tag_count }
     ensures { result ≡ with_tag tag tags }
 {
     if has(tags, tag) {
-        return tags;
+        tags
+    } else {
+        tags + (1 << tag)
     }
-    tags + (1 << tag)
 }
 
 impl Fields {
@@ -62,8 +54,8 @@ impl Fields {
     {
         Fields {
             tags: 0,
-            high: [0u64; TAG_COUNT],
-            low: [0u64; TAG_COUNT],
+            high: [0; TAG_COUNT],
+            low: [0; TAG_COUNT],
         }
     }
 
@@ -177,16 +169,14 @@ impl Fields {
     }
 
     // The same for a number of 16 bytes.
-    pub fn with_wide(self, tag: usize, value: Bits128) -> Fields
+    pub fn with_wide(mut self, tag: usize, value: Bits128) -> Fields
         ensures { result ≡ with_wide tag value self }
     {
-        if TAG_COUNT <= tag {
-            return self;
+        if tag < TAG_COUNT {
+            self.tags = with_tag(self.tags, tag);
+            self.high[tag] = value.high;
+            self.low[tag] = value.low;
         }
-        let mut next = self;
-        next.tags = with_tag(self.tags, tag);
-        next.high[tag] = value.high;
-        next.low[tag] = value.low;
-        next
+        self
     }
 }

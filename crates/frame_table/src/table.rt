@@ -5,8 +5,6 @@ ghost use Rattle.frame_table.specs.Table.{form_of, is_request_form, is_reply_for
 ghost use Rattle.frame_table.specs.declared.table.Characters.TheVariants.{CapitalsOrDigits};
 ghost use Rattle.frame_table.specs.declared.table.Form.TheVariants.{NoForm, Request};
 
-use octets::bytes::wide;
-
 // How many tags there are, from 0 on.
 pub const TAG_COUNT: usize = 18;
 
@@ -57,14 +55,14 @@ pub const UZHNN: u64 = 0x55_5A_48_4E_4E;
 pub const H003: u64 = 0x48_30_30_33;
 
 // The characters of a text.
-#[derive(Clone, Copy)]
+#[derive(Clone, Copy, PartialEq, Eq)]
 pub enum Characters {
     Digits,
     CapitalsOrDigits,
 }
 
 // What the content of a field can be: any bytes, a number from the least to the greatest, or a text.
-#[derive(Clone, Copy)]
+#[derive(Clone, Copy, PartialEq, Eq)]
 pub enum Values {
     Any,
     Range(u64, u64),
@@ -75,7 +73,7 @@ pub enum Values {
 #[derive(Clone, Copy)]
 struct Field(pub usize, pub Values);
 
-#[derive(Clone, Copy)]
+#[derive(Clone, Copy, PartialEq, Eq)]
 pub enum RequestForm {
     UploadOpening,
     DownloadOpening,
@@ -87,7 +85,7 @@ pub enum RequestForm {
 }
 
 // SegmentTaken is also the recovery point, ReceiptAnswered also the reply to a chosen opening: each has the same fields.
-#[derive(Clone, Copy)]
+#[derive(Clone, Copy, PartialEq, Eq)]
 pub enum ReplyForm {
     UploadOpened,
     DownloadOpened,
@@ -98,7 +96,8 @@ pub enum ReplyForm {
     Refusal,
 }
 
-#[derive(Clone, Copy)]
+// NoForm is a case of its own and no None: `tags_of` and `has_phase` define it beside the others.
+#[derive(Clone, Copy, PartialEq, Eq)]
 pub enum Form {
     NoForm,
     Request(RequestForm),
@@ -225,50 +224,46 @@ fn field_row(tag: usize) -> Field
 }
 
 // The content length of the tag; 0 where it is one byte or more.
+#[tactic(auto, unfolding(crate::specs::Table::width))]
 pub fn width(tag: usize) -> usize
     requires { tag < tag_count }
     ensures { result ≡ width tag }
 {
-    let field = field_row(tag);
-    field.0
+    field_row(tag).0
 }
 
 // The values of the tag.
+#[tactic(auto, unfolding(crate::specs::Table::values_of))]
 pub fn values_of(tag: usize) -> Values
     requires { tag < tag_count }
     ensures { result ≡ values_of tag }
 {
-    let field = field_row(tag);
-    field.1
+    field_row(tag).1
 }
 
+#[tactic(auto, unfolding(crate::specs::Table::in_range))]
 pub fn in_range(least: u64, greatest: u64, number: u64) -> bool
     ensures { result ≡ in_range least greatest number }
 {
-    if number < least {
-        return false;
-    }
-    number <= greatest
+    (least..=greatest).contains(&number)
 }
 
 // Whether the byte is a capital or a digit.
+#[tactic(auto, unfolding(crate::specs::Table::allowed))]
 pub fn is_capital_or_digit(byte: u64) -> bool
     ensures { result ≡ allowed CapitalsOrDigits byte }
 {
-    if in_range(48, 57, byte) {
-        return true;
-    }
-    in_range(65, 90, byte)
+    in_range(48, 57, byte) || in_range(65, 90, byte)
 }
 
 // Whether the byte is one of the characters.
+#[tactic(auto, unfolding(crate::specs::Table::allowed, crate::specs::Table::in_range))]
 pub fn allowed(characters: Characters, byte: u8) -> bool
     ensures { result ≡ allowed characters byte }
 {
-    let b = wide(byte);
     match characters {
-        Characters::Digits => in_range(48, 57, b),
-        Characters::CapitalsOrDigits => is_capital_or_digit(b),
+        Characters::Digits => byte.is_ascii_digit(),
+        Characters::CapitalsOrDigits => is_capital_or_digit(u64::from(byte)),
     }
 }
 
@@ -284,6 +279,7 @@ fn of_phase(phase: u64, own: u64, form: RequestForm) -> Form
 }
 
 // The form with these tags and this phase: the table of forms. A request form has its own phase, a reply form any.
+#[tactic(auto, unfolding(crate::specs::Table::row_fits, crate::specs::Table::find_form, crate::specs::Table::form_of))]
 pub(crate) fn form_of(tags: u32, phase: u64) -> Form
     ensures { result ≡ form_of tags phase }
 {
@@ -309,19 +305,11 @@ pub(crate) fn form_of(tags: u32, phase: u64) -> Form
 pub fn is_request_form(form: Form) -> bool
     ensures { result ≡ is_request_form form }
 {
-    match form {
-        Form::NoForm => false,
-        Form::Request(_) => true,
-        Form::Reply(_) => false,
-    }
+    matches!(form, Form::Request(_))
 }
 
 pub fn is_reply_form(form: Form) -> bool
     ensures { result ≡ is_reply_form form }
 {
-    match form {
-        Form::NoForm => false,
-        Form::Request(_) => false,
-        Form::Reply(_) => true,
-    }
+    matches!(form, Form::Reply(_))
 }

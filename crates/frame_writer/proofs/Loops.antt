@@ -4,6 +4,8 @@ use mathlib.Core.List.{List, [], ◌++◌}
 use mathlib.Core.Bool.{Bool, true, false, cond, ◌&&◌}
 use mathlib.Core.Path.{◌≡◌, refl, sym, ap, ◌∙◌}
 use native.Mathlib.Omega.{arith}
+use lib.Dec.{eqb}
+use Rattle.std.proofs.Common.{Option, Some, None}
 use lib.ListN.{length, get_or, length-append}
 use borrow.Author.Tests.{eqb-true, eq-eqb, ne_eqb, le-leb, lt-leb}
 use Rattle.frame_table.specs.declared.fields.Fields.{Fields}
@@ -46,6 +48,11 @@ module _ (t : ℕ) (f : Fields) (d : List ℕ) where
   pub content-absent : has f.tags t ≡ false → content_of t f d ≡ []
   unfolding content_of
   content-absent e = rw e
+
+  pub content-stands : has f.tags t ≡ true
+      → content_of t f d ≡ cond (eqb t data_tag) d (bytes_of (width t) (get_or f.high t 0 * 2 ^ 64 + get_or f.low t 0))
+  unfolding content_of
+  content-stands e = rw e
 
   pub content-number : has f.tags t ≡ true → (t ≡ data_tag → ⊥)
       → content_of t f d ≡ bytes_of (width t) (get_or f.high t 0 * 2 ^ 64 + get_or f.low t 0)
@@ -132,23 +139,39 @@ module _ (f : Fields) (d : List ℕ) where
 
 -- ---- what the writer accepts
 
-module _ (f : Fields) (d : List ℕ) (n : ℕ) (e : n ≡ cond (fields_writable tag_count 0 f d) (length (frame_of f d)) (frame_limit + 1)) where
-  over-at : (a b : Bool) → is_form (form f) ≡ a → fields_writable tag_count 0 f d ≡ b → frame_limit < n → writable f d ≡ false
+-- what a length of the fields tells
+module _ (f : Fields) (d : List ℕ) (r : Option ℕ)
+    (e : r ≡ cond (fields_writable tag_count 0 f d) (Some (length (frame_of f d))) None) where
+  none_at : (b : Bool) → fields_writable tag_count 0 f d ≡ b → r ≡ None → fields_writable tag_count 0 f d ≡ false
+  none_at true p k = let z : Some (length (frame_of f d)) ≡ None = sym (rw p at e) ∙ k in cc
+  none_at false p k = p
+
+  pub length-none : r ≡ None → fields_writable tag_count 0 f d ≡ false
+  length-none = none_at (fields_writable tag_count 0 f d) refl
+
+  some_at : (n : ℕ) (b : Bool) → fields_writable tag_count 0 f d ≡ b → r ≡ Some n
+      → (fields_writable tag_count 0 f d ≡ true) × (n ≡ length (frame_of f d))
+  some_at n true p k = let z : Some n ≡ Some (length (frame_of f d)) = sym k ∙ (rw p at e) in (p, cc)
+  some_at n false p k = let z : Some n ≡ None = sym k ∙ (rw p at e) in cc
+
+  pub length-some : (n : ℕ) → r ≡ Some n → (fields_writable tag_count 0 f d ≡ true) × (n ≡ length (frame_of f d))
+  length-some n = some_at n (fields_writable tag_count 0 f d) refl
+
+module _ (f : Fields) (d : List ℕ) where
+  none-form : (a : Bool) → is_form (form f) ≡ a → fields_writable tag_count 0 f d ≡ false → writable f d ≡ false
   unfolding writable
-  over-at false b p q h = rw p
-  over-at true false p q h = rw (p, q)
-  over-at true true p q h = rw (p, q) (lt-leb (length (frame_of f d)) frame_limit (omega (arith, rw q at e)))
+  none-form true p q = rw (p, q)
+  none-form false p q = rw p
 
-  pub writable-over : frame_limit < n → writable f d ≡ false
-  writable-over = over-at (is_form (form f)) (fields_writable tag_count 0 f d) refl refl
+  pub writable-none : fields_writable tag_count 0 f d ≡ false → writable f d ≡ false
+  writable-none = none-form (is_form (form f)) refl
 
-  under_at : (b : Bool) → is_form (form f) ≡ true → fields_writable tag_count 0 f d ≡ b → n ≤ frame_limit
-      → (writable f d ≡ true) × (n ≡ length (frame_of f d))
-  unfolding writable
-  under_at false p q h = absurd (omega (arith, rw q at e))
-  under_at true p q h =
-      let k : n ≡ length (frame_of f d) = rw q at e in
-      (rw (p, q) (le-leb (length (frame_of f d)) frame_limit (omega arith)), k)
+  module _ (n : ℕ) (form-is : is_form (form f) ≡ true) (fit : fields_writable tag_count 0 f d ≡ true)
+      (e : n ≡ length (frame_of f d)) where
+    pub writable-over : frame_limit < n → writable f d ≡ false
+    unfolding writable
+    writable-over h = rw (form-is, fit) (lt-leb (length (frame_of f d)) frame_limit (omega arith))
 
-  pub writable-under : is_form (form f) ≡ true → n ≤ frame_limit → (writable f d ≡ true) × (n ≡ length (frame_of f d))
-  writable-under p = under_at (fields_writable tag_count 0 f d) p refl
+    pub writable-under : n ≤ frame_limit → writable f d ≡ true
+    unfolding writable
+    writable-under h = rw (form-is, fit) (le-leb (length (frame_of f d)) frame_limit (omega arith))

@@ -1,4 +1,6 @@
 -- What the writer's answer tells of the buffer, and of the fields and the data. Assumes nothing.
+use Rattle.number_table.specs.Numbers.{number_one}
+use Rattle.std.specs.Prelude.{Err, Ok}
 use Prim.Native.Nat.{ℕ, ◌+◌, ◌≤◌}
 use mathlib.Core.List.{List, ◌++◌}
 use mathlib.Core.Bool.{Bool, true, false, cond, ◌&&◌}
@@ -14,7 +16,6 @@ use Rattle.octets.specs.Bytes.{overwrite}
 use Rattle.frame_table.specs.Table.{tag_count, frame_limit, is_form}
 use Rattle.frame_table.specs.Names.{form}
 use Rattle.octets.proofs.Tests.{and-true}
-use Rattle.frame_writer.specs.declared.writer.Written.TheVariants.{Length, Refused}
 use Rattle.frame_writer.specs.Writer.{frame_of, fields_writable, writable, accepted, write_answer, write_buffer}
 
 module _ (f : Fields) (d old : List ℕ) where
@@ -37,31 +38,31 @@ module _ (f : Fields) (d old : List ℕ) where
 
   -- what is accepted is written
   pub accepted-written : accepted f d old ≡ true
-      → (write_answer f d old ≡ Length (length (frame_of f d))) × (write_buffer f d old ≡ overwrite old 0 (frame_of f d))
+      → (write_answer f d old ≡ Ok (length (frame_of f d))) × (write_buffer f d old ≡ overwrite old 0 (frame_of f d))
   unfolding write_answer write_buffer
   accepted-written e = rw e (refl, refl)
 
   -- else nothing is
-  pub refused-unwritten : accepted f d old ≡ false → (write_answer f d old ≡ Refused) × (write_buffer f d old ≡ old)
+  pub refused-unwritten : accepted f d old ≡ false → (write_answer f d old ≡ Err number_one) × (write_buffer f d old ≡ old)
   unfolding write_answer write_buffer
   refused-unwritten e = rw e (refl, refl)
 
-  refused-at : (b : Bool) → cond b (Length (length (frame_of f d))) Refused ≡ Refused → b ≡ false
+  refused-at : (b : Bool) → cond b (Ok (length (frame_of f d))) (Err number_one) ≡ Err number_one → b ≡ false
   refused-at true e = let z : ◌≡◌ {A = ℕ} 0 1 = cc in absurd (omega arith)
   refused-at false e = refl
 
   -- number 1 says that it was not accepted
-  pub refused-accepted : write_answer f d old ≡ Refused → accepted f d old ≡ false
+  pub refused-accepted : write_answer f d old ≡ Err number_one → accepted f d old ≡ false
   unfolding write_answer
   refused-accepted e = refused-at (accepted f d old) e
 
   module _ (n : ℕ) where
-    length_at : (b : Bool) → cond b (Length (length (frame_of f d))) Refused ≡ Length n
+    length_at : (b : Bool) → cond b (Ok (length (frame_of f d))) (Err number_one) ≡ Ok n
         → (b ≡ true) × (length (frame_of f d) ≡ n)
     length_at true e = (refl, cc)
     length_at false e = let z : ◌≡◌ {A = ℕ} 0 1 = cc in absurd (omega arith)
 
-    module _ (h : write_answer f d old ≡ Length n) where
+    module _ (h : write_answer f d old ≡ Ok n) where
       -- a length says that it was, and is the frame's
       length-is : (accepted f d old ≡ true) × (length (frame_of f d) ≡ n)
       unfolding write_answer
@@ -89,7 +90,7 @@ module _ (f : Fields) (d old : List ℕ) where
 
     -- written where there is room, the frame is the front of the buffer
     pub written-in-front : writable f d ≡ true → length (frame_of f d) ≡ n → n ≤ length old
-        → (write_answer f d old ≡ Length n) × (write_buffer f d old ≡ overwrite old 0 (frame_of f d))
+        → (write_answer f d old ≡ Ok n) × (write_buffer f d old ≡ overwrite old 0 (frame_of f d))
     written-in-front h e k =
         let w = accepted-written (is-accepted h (omega arith)) in
-        (w.0 ∙ ap Length e, w.1)
+        (w.0 ∙ ap Ok e, w.1)

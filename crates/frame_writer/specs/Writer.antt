@@ -1,11 +1,12 @@
 -- Document 01, "The frame": the frame that says these fields with this data, and what the writer accepts.
+use Rattle.number_table.specs.Numbers.{number_one}
+use Rattle.number_table.specs.declared.table.WrongLength.{WrongLength}
+use Rattle.std.specs.Prelude.{Err, Ok, Result}
 use Rattle.std.specs.Prelude.{ℕ, zero, suc, ◌+◌, ◌*◌, ◌^◌, List, [], ◌∷◌, Bool, true, cond, not, ◌&&◌, ◌||◌, length, get_or, leb, eqb}
 use Rattle.number_table.specs.Table as numbers
 use Rattle.frame_table.specs.declared.fields.Fields.{Fields}
 use Rattle.frame_table.specs.declared.table.Form.{Form}
 use Rattle.frame_table.specs.Forms as forms
-use Rattle.frame_writer.specs.declared.writer.Written.{Written}
-use Rattle.frame_writer.specs.declared.writer.Written.TheVariants.{Length, Refused}
 use Rattle.octets.specs.Bytes.{bytes_of, overwrite}
 use Rattle.frame_table.specs.Table.{frame_limit, tag_count, data_tag, width, has, tags_of, is_form}
 use Rattle.frame_table.specs.Names.{form}
@@ -69,8 +70,8 @@ unfoldable pub accepted : Fields → List ℕ → List ℕ → Bool
 accepted f d old = writable f d && leb (length (frame_of f d)) (length old)
 
 -- the answer where f with the data d was to be written into old
-unfoldable pub write_answer : Fields → List ℕ → List ℕ → Written
-write_answer f d old = cond (accepted f d old) (Length (length (frame_of f d))) Refused
+unfoldable pub write_answer : Fields → List ℕ → List ℕ → Result ℕ WrongLength
+write_answer f d old = cond (accepted f d old) (Ok (length (frame_of f d))) (Err number_one)
 
 -- the buffer then: the frame in front, or "nothing written"
 unfoldable pub write_buffer : Fields → List ℕ → List ℕ → List ℕ
@@ -81,9 +82,9 @@ unfoldable pub write_number : Fields → List ℕ → List ℕ → ℕ
 write_number f d old = cond (accepted f d old) 0 numbers.wrong_length
 
 -- document 01's number for an answer, 0 where a frame is written
-abbrev pub written_number : Written → ℕ
-written_number (Length n) = 0
-written_number Refused = numbers.wrong_length
+abbrev pub written_number : Result ℕ WrongLength → ℕ
+written_number (Ok n) = 0
+written_number (Err e) = numbers.wrong_length
 
 -- "Frame lengths: upload opening" 57
 abbrev pub upload_opening_length : ℕ

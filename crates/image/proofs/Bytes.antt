@@ -1,9 +1,11 @@
 -- Laws of a number written last byte first, and of a number's length. Assumes nothing.
-use Prim.Native.Nat.{ℕ, suc, ◌+◌, ◌/◌, ◌%◌, ◌^◌, ◌≤◌, ◌<◌}
+use Prim.Native.Nat.{ℕ, zero, suc, ◌+◌, ◌*◌, ◌/◌, ◌%◌, ◌^◌, ◌≤◌, ◌<◌}
 use mathlib.Core.List.{List, [], ◌∷◌, ◌++◌}
-use mathlib.Core.Path.{◌≡◌, sym, ap, ◌∙◌}
+use mathlib.Core.Path.{◌≡◌, refl, sym, ap, ◌∙◌}
+use native.Mathlib.Numerals.{unary_clauses}
 use native.Mathlib.Nat.{zero-lt-suc, pow-le-pow_right}
 use native.Mathlib.Omega.{arith}
+use Rattle.std.proofs.lemmas.Nat.{pow-add, one_shl}
 use lib.ListN.{length, take, drop, set, length-append, length-set}
 use lib.Seq.{take-set-le, drop-set-lt, drop-cons, get_or-set_same, append_snoc}
 use Rattle.octets.specs.Bytes.{bytes_of, overwrite}
@@ -33,3 +35,14 @@ bytes_of-turn d at i j x e h =
 -- eight bytes are enough for a number of 64 bits
 pub eight-bytes : (w x : ℕ) → 8 ≤ w → x < 2 ^ 64 → x < 256 ^ w
 eight-bytes w x h k = omega (arith, pow-le-pow_right {n = 256} (zero-lt-suc 255) {i = 8} {j = w} h)
+
+-- a number of w bytes has 8 * w bits
+pub bytes-bits : (w : ℕ) → 2 ^ (8 * w) ≡ 256 ^ w
+bytes-bits zero = refl
+bytes-bits (suc w) =
+    let e : 8 * suc w ≡ 8 + 8 * w = omega arith in
+    rw (e, pow-add 2 8 (8 * w), bytes-bits w) (simp unary_clauses (omega arith))
+
+-- and the bound that the shift gives
+pub shifted-bound : (w : ℕ) → w < 8 → (1 * 2 ^ (8 * w)) % 18446744073709551616 ≡ 256 ^ w
+shifted-bound w h = one_shl (8 * w) 64 (omega arith) ∙ bytes-bits w

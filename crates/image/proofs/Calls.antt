@@ -1,4 +1,5 @@
 -- What the two calls answer and leave, case by case. Assumes nothing.
+use Rattle.std.specs.Prelude.{Err, Ok}
 use Prim.Native.Nat.{ℕ, ◌+◌, ◌≤◌, ◌<◌}
 use mathlib.Core.List.{List, [], ◌∷◌}
 use mathlib.Core.Bool.{Bool, true, false}
@@ -9,7 +10,7 @@ use native.Mathlib.Omega.{arith}
 use borrow.Author.Tests.{eq-eqb, ne_eqb, le-leb, lt-leb, eqb-true}
 use Rattle.octets.specs.Bytes.{overwrite}
 use Rattle.octets.proofs.Tests.{and-true}
-use Rattle.image.specs.declared.codec.Answer.TheVariants.{Done, Lengths, Contents}
+use Rattle.image.specs.declared.codec.ImageRefusal.TheVariants.{WrongLength, NotAdmitted}
 use Rattle.image.specs.declared.table.Sizes.{Sizes}
 use Rattle.image.specs.declared.walk.Cursor.{Cursor}
 use Rattle.image.specs.Table.{row_at}
@@ -132,37 +133,37 @@ module _ (f : Sizes) (ef : f ≡ image_sizes) where
     lent-stores k j = form-stores ∙ rw (k, j, ef)
 
     module _ (d : List ℕ) where
-      pub written-lengths : lent xs a b ≡ false → wrote Lengths d ≡ written xs a b d
+      pub written-lengths : lent xs a b ≡ false → wrote (Err WrongLength) d ≡ written xs a b d
       unfolding written
       written-lengths h = rw h
 
-      pub written-short : lent xs a b ≡ true → length d < f.image → wrote Lengths d ≡ written xs a b d
+      pub written-short : lent xs a b ≡ true → length d < f.image → wrote (Err WrongLength) d ≡ written xs a b d
       unfolding written
       written-short h k = rw (h, lt-leb image_sizes.image (length d) (rw ef at k))
 
       pub written-unfit : lent xs a b ≡ true → f.image ≤ length d → fits image_items xs ≡ false
-          → wrote Contents d ≡ written xs a b d
+          → wrote (Err NotAdmitted) d ≡ written xs a b d
       unfolding written
       written-unfit h k j = rw (h, le-leb image_sizes.image (length d) (rw ef at k), j)
 
       pub written-done : lent xs a b ≡ true → f.image ≤ length d → fits image_items xs ≡ true
           → (e : List ℕ) → e ≡ overwrite d 0 (image_of xs a b)
-          → wrote Done e ≡ written xs a b d
+          → wrote (Ok tt) e ≡ written xs a b d
       unfolding written
       written-done h k j e q = rw (h, le-leb image_sizes.image (length d) (rw ef at k), j, q)
 
     module _ (s : List ℕ) where
-      pub taken-lengths : lent xs a b ≡ false → took Lengths xs (stores a b) ≡ taken s xs a b
+      pub taken-lengths : lent xs a b ≡ false → took (Err WrongLength) xs (stores a b) ≡ taken s xs a b
       unfolding taken
       taken-lengths h = rw h
 
-      pub taken-other : lent xs a b ≡ true → is_image s ≡ false → took Contents xs (stores a b) ≡ taken s xs a b
+      pub taken-other : lent xs a b ≡ true → is_image s ≡ false → took (Err NotAdmitted) xs (stores a b) ≡ taken s xs a b
       unfolding taken
       taken-other h k = rw (h, k)
 
       pub taken-done : lent xs a b ≡ true → is_image s ≡ true
           → (ys : List ℕ) (ss : List (List ℕ)) → ys ≡ numbers_of image_items s → ss ≡ stores_of image_items s
-          → took Done ys ss ≡ taken s xs a b
+          → took (Ok tt) ys ss ≡ taken s xs a b
       unfolding taken
       taken-done h k ys ss p q = rw (h, k, p, q)
 
@@ -171,9 +172,9 @@ module _ (f : Sizes) (ef : f ≡ image_sizes) where
     unfolding is_image
     image-other k = rw (ne_eqb (length s) image_sizes.image (rw ef at k))
 
-    pub image-heads : length s ≡ f.image → (r : Bool) → r ≡ constants_right (field_items f.fields 0) s → r ≡ is_image s
+    pub image-heads : length s ≡ f.image → (r : Bool) → r ≡ constants_right image_items s → r ≡ is_image s
     unfolding is_image
-    image-heads k r q = q ∙ rw (eq-eqb (length s) image_sizes.image (rw ef at k), fields-items)
+    image-heads k r q = q ∙ rw (eq-eqb (length s) image_sizes.image (rw ef at k))
 
     pub image-long : is_image s ≡ true → length s ≡ image_sizes.image
     unfolding is_image
@@ -186,15 +187,15 @@ module _ (f : Sizes) (ef : f ≡ image_sizes) where
     image-bytes h = let k = image-long h in omega arith
 
     module _ (xs : List ℕ) where
-      pub numbers-lengths : (length xs ≡ f.numbers → ⊥) → took_numbers Lengths xs ≡ numbers_taken s xs
+      pub numbers-lengths : (length xs ≡ f.numbers → ⊥) → took_numbers (Err WrongLength) xs ≡ numbers_taken s xs
       unfolding numbers_taken
       numbers-lengths h = rw (ne_eqb (length xs) image_sizes.numbers (rw ef at h))
 
-      pub numbers-other : length xs ≡ f.numbers → is_image s ≡ false → took_numbers Contents xs ≡ numbers_taken s xs
+      pub numbers-other : length xs ≡ f.numbers → is_image s ≡ false → took_numbers (Err NotAdmitted) xs ≡ numbers_taken s xs
       unfolding numbers_taken
       numbers-other h k = rw (eq-eqb (length xs) image_sizes.numbers (rw ef at h), k)
 
       pub numbers-done : length xs ≡ f.numbers → is_image s ≡ true → (ys : List ℕ) → ys ≡ numbers_of image_items s
-          → took_numbers Done ys ≡ numbers_taken s xs
+          → took_numbers (Ok tt) ys ≡ numbers_taken s xs
       unfolding numbers_taken
       numbers-done h k ys p = rw (eq-eqb (length xs) image_sizes.numbers (rw ef at h), k, p)

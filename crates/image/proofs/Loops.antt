@@ -11,6 +11,9 @@ use lib.Dec.{ltb}
 use Rattle.octets.specs.Bytes.{bytes_of, overwrite}
 use Rattle.octets.proofs.Numbers.{length-bytes_of, length-overwrite, overwrite-overwrite, overwrite-nil}
 use Rattle.image.specs.Items.{Item, constant, part, store, bytes_in, parts_in, stores_in}
+use Rattle.image.specs.declared.walk.Entry.{Entry}
+use Rattle.image.specs.declared.walk.Entry.TheVariants as entry
+use Rattle.image.specs.Walk.{item_of}
 use Rattle.image.specs.Image.{pack, fits, lengths}
 use Rattle.image.proofs.Walking.{bytes-constant, bytes-part, bytes-store, parts-part, stores-store}
 use Rattle.image.proofs.Lengths.{length-pack, size_below, size_is, sizes-behind}
@@ -103,15 +106,21 @@ pub record Fitting (r : List Item) (xs : List ℕ) (k : ℕ) (goal : Bool) : Typ
   pub same : goal ≡ fits r (drop k xs)
 
 module _ {r : List Item} {xs : List ℕ} {k : ℕ} {goal : Bool} (p : Fitting r xs k goal) where
-  pub fitting-constant : {w v : ℕ} {l : List Item} → constant w v ∷ l ≡ r → Fitting l xs k goal
+  fitting-constant : {w v : ℕ} {l : List Item} → constant w v ∷ l ≡ r → Fitting l xs k goal
   unfolding fits parts_in
   fitting-constant e =
       record { room = rw (← e) at p.room; same = p.same ∙ ap (λ (i : List Item). fits i (drop k xs)) (sym e) }
 
-  pub fitting-store : {z : ℕ} {l : List Item} → store z ∷ l ≡ r → Fitting l xs k goal
+  fitting-store : {z : ℕ} {l : List Item} → store z ∷ l ≡ r → Fitting l xs k goal
   unfolding fits parts_in
   fitting-store e =
       record { room = rw (← e) at p.room; same = p.same ∙ ap (λ (i : List Item). fits i (drop k xs)) (sym e) }
+
+  -- an entry that is no part
+  pub fitting-other : {l : List Item} (e : Entry) → r ≡ item_of e ∷ l → ((w : ℕ) → e ≡ entry.Part w → ⊥) → Fitting l xs k goal
+  fitting-other (entry.Head w v) s n = fitting-constant (sym s)
+  fitting-other (entry.Part w) s n = absurd (n w refl)
+  fitting-other (entry.Store z) s n = fitting-store (sym s)
 
   fits_next : {w : ℕ} {l : List Item} → part w ∷ l ≡ r
       → goal ≡ (ltb (get_or xs k 0) (256 ^ w) && fits l (drop (k + 1) xs))

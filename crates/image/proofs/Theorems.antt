@@ -1,4 +1,5 @@
 -- What putting away and taking up keep of a session. Assumes nothing.
+use Rattle.std.specs.Prelude.{Err, Ok}
 use Prim.Native.Nat.{ℕ, ◌≤◌}
 use mathlib.Core.List.{List, [], ◌∷◌, append-nil}
 use mathlib.Core.Bool.{Bool, true, false, cond, ◌&&◌}
@@ -10,7 +11,7 @@ use lib.Dec.{eqb}
 use borrow.Author.Tests.{eqb-true, eq-eqb, le-leb}
 use Rattle.octets.specs.Bytes.{Bytes, overwrite}
 use Rattle.octets.proofs.Tests.{and-true}
-use Rattle.image.specs.declared.codec.Answer.TheVariants.{Done, Lengths, Contents}
+use Rattle.image.specs.declared.codec.ImageRefusal.TheVariants.{WrongLength, NotAdmitted}
 use Rattle.image.specs.Table.{row_at, image_fields}
 use Rattle.image.specs.Items.{
   image_items,
@@ -79,7 +80,7 @@ module _ (xs a b : List ℕ) (h : Session xs a b) where
 
   -- the writer writes it over the front of any buffer that is long enough
   pub session-written : (d : List ℕ) → image_sizes.image ≤ length d
-      → written xs a b d ≡ wrote Done (overwrite d 0 (image_of xs a b))
+      → written xs a b d ≡ wrote (Ok tt) (overwrite d 0 (image_of xs a b))
   unfolding written
   session-written d k = rw (h.0, le-leb image_sizes.image (length d) k, h.1)
 
@@ -108,14 +109,14 @@ module _ (xs a b : List ℕ) (h : Session xs a b) where
 
   -- whatever stood there
   pub read_back : (ys c d : List ℕ) → lent ys c d ≡ true
-      → taken (image_of xs a b) ys c d ≡ took Done xs (stores a b)
+      → taken (image_of xs a b) ys c d ≡ took (Ok tt) xs (stores a b)
   read_back ys c d k =
       sym (taken-done image_sizes refl ys c d (image_of xs a b) k image-accepted xs (stores a b)
       (sym numbers-back) (sym stores_back))
 
 -- different sessions have different images
 pub same-image : (xs a b ys c d : List ℕ) → Session xs a b → Session ys c d → image_of xs a b ≡ image_of ys c d
-    → took Done xs (stores a b) ≡ took Done ys (stores c d)
+    → took (Ok tt) xs (stores a b) ≡ took (Ok tt) ys (stores c d)
 same-image xs a b ys c d h k e =
     sym (read_back xs a b h xs a b h.0) ∙ ap (λ (s : List ℕ). taken s xs a b) e ∙ read_back ys c d k xs a b h.0
 
@@ -126,7 +127,7 @@ same-session xs a b ys c d e f g = rw (e, f, g)
 -- ---- what is read is written
 
 -- an answer of the reader that is done comes from an image
-module _ (s xs a b ys c d : List ℕ) (e : taken s xs a b ≡ took Done ys (stores c d)) where
+module _ (s xs a b ys c d : List ℕ) (e : taken s xs a b ≡ took (Ok tt) ys (stores c d)) where
   abbrev From : Type 0
   From = (is_image s ≡ true) × (numbers_of image_items s ≡ ys) × (stores_of image_items s ≡ stores c d)
 
@@ -135,9 +136,9 @@ module _ (s xs a b ys c d : List ℕ) (e : taken s xs a b ≡ took Done ys (stor
 
   by_tests : (t u : Bool) → lent xs a b ≡ t → is_image s ≡ u
       → cond t
-      (cond u (took Done (numbers_of image_items s) (stores_of image_items s)) (took Contents xs (stores a b)))
-      (took Lengths xs (stores a b))
-      ≡ took Done ys (stores c d) → From
+      (cond u (took (Ok tt) (numbers_of image_items s) (stores_of image_items s)) (took (Err NotAdmitted) xs (stores a b)))
+      (took (Err WrongLength) xs (stores a b))
+      ≡ took (Ok tt) ys (stores c d) → From
   by_tests true true p q r = (q, ap (λ (o : Took). o.numbers) r, ap (λ (o : Took). o.stores) r)
   by_tests true false p q r = not_done (let k = ap (λ (o : Took). o.answer) r in cc)
   by_tests false u p q r = not_done (let k = ap (λ (o : Took). o.answer) r in cc)

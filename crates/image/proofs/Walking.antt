@@ -6,6 +6,8 @@ use native.Mathlib.Omega.{arith}
 use lib.ListN.{length}
 use Rattle.image.specs.declared.table.Row.{Row}
 use Rattle.image.specs.declared.walk.Cursor.{Cursor}
+use Rattle.image.specs.declared.walk.Entry.{Entry}
+use Rattle.image.specs.declared.walk.Entry.TheVariants as entry
 use Rattle.image.specs.declared.walk.Step.{Step}
 use Rattle.image.specs.declared.walk.Step.TheVariants.{Head, Part, Store, Done}
 use Rattle.image.specs.Table.{row_at}
@@ -23,7 +25,7 @@ use Rattle.image.specs.Items.{
   parts_in,
   stores_in,
 }
-use Rattle.image.specs.Walk.{rest, start_at, step_items, step_width}
+use Rattle.image.specs.Walk.{rest, start_at, step_items, step_width, item_of, IsNarrow}
 
 -- ---- what a place has left
 
@@ -127,6 +129,21 @@ module _ {s : Step} {r : List Item} (e : (step_items s ≡ r) × (step_width s �
   pub step-done : s ≡ Done → [] ≡ r
   unfolding step_items
   step-done q = ap step_items (sym q) ∙ e.0
+
+-- ---- what the walk gives
+
+module _ {r l : List Item} (e : Entry) (s : r ≡ item_of e ∷ l) where
+  pub walked-head : {w h : ℕ} → e ≡ entry.Head w h → constant w h ∷ l ≡ r
+  walked-head q = sym (rw q at s)
+
+  pub walked-part : {w : ℕ} → e ≡ entry.Part w → part w ∷ l ≡ r
+  walked-part q = sym (rw q at s)
+
+  pub walked-store : {z : ℕ} → e ≡ entry.Store z → store z ∷ l ≡ r
+  walked-store q = sym (rw q at s)
+
+pub walked-narrow : {w : ℕ} (e : Entry) → IsNarrow e → e ≡ entry.Part w → w ≤ 8
+walked-narrow e n q = rw q at n
 
 -- ---- what an item counts for
 

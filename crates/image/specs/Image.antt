@@ -1,9 +1,10 @@
 -- Card 2: the image of a session's numbers and stores, and what the two calls answer and leave.
+use Rattle.image.specs.declared.codec.ImageRefusal.{ImageRefusal}
+use Rattle.std.specs.Prelude.{Err, Ok, Result}
 use Rattle.std.specs.Prelude.{ℕ, ◌^◌, List, [], ◌∷◌, ◌++◌, Bool, true, cond, ◌&&◌, length, get_or, take, drop, ltb, leb, eqb}
 use Rattle.number_table.specs.Table as numbers
 use Rattle.octets.specs.Bytes.{number, bytes_of, overwrite}
-use Rattle.image.specs.declared.codec.Answer.{Answer}
-use Rattle.image.specs.declared.codec.Answer.TheVariants.{Done, Lengths, Contents}
+use Rattle.image.specs.declared.codec.ImageRefusal.TheVariants.{WrongLength, NotAdmitted}
 use Rattle.image.specs.Items.{Item, constant, part, store, image_items, image_sizes}
 
 -- the bytes of constants, numbers and stores
@@ -64,19 +65,23 @@ lent xs orders mailboxes =
 unfoldable pub is_image : List ℕ → Bool
 is_image s = eqb (length s) image_sizes.image && constants_right image_items s
 
--- the papers' number for an answer, 0 where an image is written or read: "with number 9 after number 1"
-abbrev pub codec_number : Answer → ℕ
-codec_number Done = 0
-codec_number Lengths = numbers.wrong_length
-codec_number Contents = numbers.not_admitted
+-- the papers' number for a refusal: "with number 9 after number 1"
+abbrev pub image_refusal_number : ImageRefusal → ℕ
+image_refusal_number WrongLength = numbers.wrong_length
+image_refusal_number NotAdmitted = numbers.not_admitted
+
+-- the papers' number for an answer, 0 where an image is written or read
+abbrev pub codec_number : Result (Unit {0}) ImageRefusal → ℕ
+codec_number (Ok u) = 0
+codec_number (Err r) = image_refusal_number r
 
 -- what a call of the writer answers, its number, and what it leaves
 pub record Wrote : Type 0 where
-  pub answer : Answer
+  pub answer : Result (Unit {0}) ImageRefusal
   pub number : ℕ
   pub buffer : List ℕ
 
-abbrev pub wrote : Answer → List ℕ → Wrote
+abbrev pub wrote : Result (Unit {0}) ImageRefusal → List ℕ → Wrote
 wrote r d = record { answer = r; number = codec_number r; buffer = d }
 
 -- "in a lent buffer, bytes behind them untouched"
@@ -84,18 +89,18 @@ unfoldable pub written : List ℕ → List ℕ → List ℕ → List ℕ → Wro
 written xs orders mailboxes d =
     cond (lent xs orders mailboxes && leb image_sizes.image (length d))
     (cond (fits image_items xs)
-    (wrote Done (overwrite d 0 (image_of xs orders mailboxes)))
-    (wrote Contents d))
-    (wrote Lengths d)
+    (wrote (Ok tt) (overwrite d 0 (image_of xs orders mailboxes)))
+    (wrote (Err NotAdmitted) d))
+    (wrote (Err WrongLength) d)
 
 -- what a call of the reader answers, its number, and what it leaves
 pub record Took : Type 0 where
-  pub answer : Answer
+  pub answer : Result (Unit {0}) ImageRefusal
   pub number : ℕ
   pub numbers : List ℕ
   pub stores : List (List ℕ)
 
-abbrev pub took : Answer → List ℕ → List (List ℕ) → Took
+abbrev pub took : Result (Unit {0}) ImageRefusal → List ℕ → List (List ℕ) → Took
 took r xs ss = record { answer = r; number = codec_number r; numbers = xs; stores = ss }
 
 -- "taking up gives back the session written, whatever stood there"; "leaves the session unchanged" otherwise
@@ -103,24 +108,24 @@ unfoldable pub taken : List ℕ → List ℕ → List ℕ → List ℕ → Took
 taken s xs orders mailboxes =
     cond (lent xs orders mailboxes)
     (cond (is_image s)
-    (took Done (numbers_of image_items s) (stores_of image_items s))
-    (took Contents xs (stores orders mailboxes)))
-    (took Lengths xs (stores orders mailboxes))
+    (took (Ok tt) (numbers_of image_items s) (stores_of image_items s))
+    (took (Err NotAdmitted) xs (stores orders mailboxes)))
+    (took (Err WrongLength) xs (stores orders mailboxes))
 
 -- what a call that reads the numbers alone answers, its number, and what it leaves
 pub record TookNumbers : Type 0 where
-  pub answer : Answer
+  pub answer : Result (Unit {0}) ImageRefusal
   pub number : ℕ
   pub numbers : List ℕ
 
-abbrev pub took_numbers : Answer → List ℕ → TookNumbers
+abbrev pub took_numbers : Result (Unit {0}) ImageRefusal → List ℕ → TookNumbers
 took_numbers r xs = record { answer = r; number = codec_number r; numbers = xs }
 
 unfoldable pub numbers_taken : List ℕ → List ℕ → TookNumbers
 numbers_taken s xs =
     cond (eqb (length xs) image_sizes.numbers)
-    (cond (is_image s) (took_numbers Done (numbers_of image_items s)) (took_numbers Contents xs))
-    (took_numbers Lengths xs)
+    (cond (is_image s) (took_numbers (Ok tt) (numbers_of image_items s)) (took_numbers (Err NotAdmitted) xs))
+    (took_numbers (Err WrongLength) xs)
 
 -- the lengths of stores
 unfoldable pub lengths : List (List ℕ) → List ℕ

@@ -1,22 +1,33 @@
 // Writing an image and reading one.
 ghost use Rattle.std.specs.Prelude.{◌≡◌, [], ◌+◌, ◌≤◌, ◌<◌, length, get_or, take, drop};
 ghost use Rattle.octets.specs.Bytes.{overwrite};
-ghost use Rattle.image.specs.Items.{image_items, image_sizes, field_items, bytes_in, parts_in, stores_in};
+ghost use Rattle.image.specs.Items.{image_items, image_sizes, bytes_in, parts_in, stores_in};
 ghost use Rattle.image.specs.Walk.{rest};
 ghost use Rattle.image.specs.Image.{pack, numbers_of, stores_of, fits, constants_right, stores, lengths};
-ghost use Rattle.image.specs.Image.{is_image, wrote, written, took, taken, took_numbers, numbers_taken};
+ghost use Rattle.image.specs.Image.{image_refusal_number, is_image, wrote, written, took, taken, took_numbers, numbers_taken};
 
 use crate::numbers::{fits_width, number_at, put_number};
-use crate::table::{image_sizes, row_at};
-use crate::walk::{Cursor, Step, next, start};
+use crate::table::{FIELD_COUNT, image_sizes, row_at};
+use crate::walk::{Cursor, Entry, start};
+use number_table::table::{NOT_ADMITTED, WRONG_LENGTH};
 use octets::bytes::copy;
 
-// What a call answers: done; "number 1", a lent length is wrong; "number 9", out of form.
-#[derive(Clone, Copy)]
-pub enum Answer {
-    Done,
-    Lengths,
-    Contents,
+// Why an image is not written or read: "number 1", a lent length is wrong, or "number 9", out of form or not of the list.
+#[derive(Clone, Copy, Debug, PartialEq, Eq)]
+pub enum ImageRefusal {
+    WrongLength,
+    NotAdmitted,
+}
+
+impl From<ImageRefusal> for u64 {
+    ghost from_gives = { λ r n. n ≡ image_refusal_number r };
+
+    fn from(refusal: ImageRefusal) -> u64 {
+        match refusal {
+            ImageRefusal::WrongLength => WRONG_LENGTH,
+            ImageRefusal::NotAdmitted => NOT_ADMITTED,
+        }
+    }
 }
 
 // Whether each number has no more bytes than its part.
@@ -24,42 +35,25 @@ fn fits_all(from: Cursor, numbers: &[u64]) -> bool
     requires { parts_in (rest from) ≤ length numbers.now }
     ensures { result ≡ fits (rest from) numbers.now }
 {
-    let mut c = from;
     let mut k = 0;
-    loop {
-        let s = next(c);
-        match s {
-            Step::Head(_, _, d) => {
-                c = d;
+    for entry in from {
+        if let Entry::Part(w) = entry {
+            if !fits_width(w, numbers[k]) {
+                return false;
             }
-            Step::Part(w, d) => {
-                if !fits_width(w, numbers[k]) {
-                    return false;
-                }
-                k += 1;
-                c = d;
-            }
-            Step::Store(_, d) => {
-                c = d;
-            }
-            Step::Done => {
-                return true;
-            }
+            k += 1;
         }
     }
+    true
 }
 
-// Writes the n-th of both stores over the buffer from a place on.
+// Writes the n-th of both stores over the buffer from a place on. A number, since `pack` counts the stores.
 fn put_store(n: usize, orders: &[u8], mailboxes: &[u8], buffer: &mut [u8], at: usize)
     requires { (n < 2) × (at + length (get_or (stores orders.now mailboxes.now) n []) ≤ length buffer.old) }
     ensures { buffer.new
         ≡ overwrite buffer.old at (get_or (stores orders.now mailboxes.now) n []) }
 {
-    if n == 0 {
-        copy(buffer, at, orders);
-        return;
-    }
-    copy(buffer, at, mailboxes);
+    copy(buffer, at, if n == 0 { orders } else { mailboxes });
 }
 
 // Writes constants, numbers and stores over the buffer from its front on.
@@ -70,53 +64,41 @@ fn put_all(from: Cursor, numbers: &[u64], orders: &[u8], mailboxes: &[u8], buffe
     ensures { buffer.new ≡ overwrite buffer.old 0
         (pack (rest from) numbers.now (stores orders.now mailboxes.now)) }
 {
-    let mut c = from;
     let mut k = 0;
     let mut n = 0;
     let mut at = 0;
-    loop {
-        let s = next(c);
-        match s {
-            Step::Head(w, h, d) => {
+    for entry in from {
+        match entry {
+            Entry::Head(w, h) => {
                 put_number(buffer, at, w, h);
                 at += w;
-                c = d;
             }
-            Step::Part(w, d) => {
+            Entry::Part(w) => {
                 put_number(buffer, at, w, numbers[k]);
                 at += w;
                 k += 1;
-                c = d;
             }
-            Step::Store(z, d) => {
+            Entry::Store(z) => {
                 put_store(n, orders, mailboxes, buffer, at);
                 at += z;
                 n += 1;
-                c = d;
-            }
-            Step::Done => {
-                return;
             }
         }
     }
 }
 
-// Whether the heads of some fields from one on stand where the table has them.
-fn heads_right(field: usize, fields: u64, image: &[u8]) -> bool
-    requires { bytes_in (field_items fields field) ≤ length image.now }
-    ensures { result ≡ constants_right (field_items fields field) image.now }
+// Whether the heads of the fields stand where the table has them.
+fn heads_right(image: &[u8]) -> bool
+    requires { bytes_in image_items ≤ length image.now }
+    ensures { result ≡ constants_right image_items image.now }
 {
-    let mut i = field;
-    let mut left = fields;
     let mut at = 0;
-    while left != 0 {
+    for i in 0..FIELD_COUNT {
         let r = row_at(i);
         if number_at(image, at, r.width) != r.head {
             return false;
         }
-        at = at + r.width + r.bytes;
-        i = i % 256 + 1;
-        left -= 1;
+        at += r.width + r.bytes;
     }
     true
 }
@@ -125,11 +107,7 @@ fn heads_right(field: usize, fields: u64, image: &[u8]) -> bool
 pub fn is_image(image: &[u8]) -> bool
     ensures { result ≡ is_image image.now }
 {
-    let f = image_sizes();
-    if image.len() != f.image {
-        return false;
-    }
-    heads_right(0, f.fields, image)
+    image.len() == image_sizes().image && heads_right(image)
 }
 
 // Reads the numbers of an image.
@@ -137,29 +115,17 @@ fn take_numbers(from: Cursor, image: &[u8], numbers: &mut [u64])
     requires { (bytes_in (rest from) ≤ length image.now) × (parts_in (rest from) ≡ length numbers.old) }
     ensures { numbers.new ≡ numbers_of (rest from) image.now }
 {
-    let mut c = from;
     let mut at = 0;
     let mut k = 0;
-    loop {
-        let s = next(c);
-        match s {
-            Step::Head(w, _, d) => {
-                at += w;
-                c = d;
-            }
-            Step::Part(w, d) => {
+    for entry in from {
+        match entry {
+            Entry::Head(w, _) => at += w,
+            Entry::Part(w) => {
                 numbers[k] = number_at(image, at, w);
                 at += w;
                 k += 1;
-                c = d;
             }
-            Step::Store(z, d) => {
-                at += z;
-                c = d;
-            }
-            Step::Done => {
-                return;
-            }
+            Entry::Store(z) => at += z,
         }
     }
 }
@@ -169,8 +135,7 @@ fn take_store(image: &[u8], at: usize, store: &mut [u8])
     requires { at + length store.old ≤ length image.now }
     ensures { store.new ≡ take (length store.old) (drop at image.now) }
 {
-    let end = at + store.len();
-    copy(store, 0, &image[at..end]);
+    store.copy_from_slice(&image[at..at + store.len()]);
 }
 
 // Reads both stores of an image.
@@ -186,66 +151,64 @@ pub fn take_stores(image: &[u8], orders: &mut [u8], mailboxes: &mut [u8])
 }
 
 // Writes the image of the numbers and the stores over the front of the buffer.
-pub fn write(numbers: &[u64], orders: &[u8], mailboxes: &[u8], buffer: &mut [u8]) -> Answer
+pub fn write(
+    numbers: &[u64],
+    orders: &[u8],
+    mailboxes: &[u8],
+    buffer: &mut [u8],
+) -> Result<(), ImageRefusal>
     ensures { wrote result buffer.new ≡ written numbers.now orders.now
         mailboxes.now buffer.old }
 {
     let f = image_sizes();
-    if numbers.len() != f.numbers {
-        return Answer::Lengths;
-    }
-    if orders.len() != f.store {
-        return Answer::Lengths;
-    }
-    if mailboxes.len() != f.store {
-        return Answer::Lengths;
+    if numbers.len() != f.numbers || orders.len() != f.store || mailboxes.len() != f.store {
+        return Err(ImageRefusal::WrongLength);
     }
     if buffer.len() < f.image {
-        return Answer::Lengths;
+        return Err(ImageRefusal::WrongLength);
     }
     let from = start(0, f.fields);
     if !fits_all(from, numbers) {
-        return Answer::Contents;
+        return Err(ImageRefusal::NotAdmitted);
     }
     put_all(from, numbers, orders, mailboxes, buffer);
-    Answer::Done
+    Ok(())
 }
 
 // Reads an image, which is all the bytes handed in, into the numbers and the stores.
-pub fn read(image: &[u8], numbers: &mut [u64], orders: &mut [u8], mailboxes: &mut [u8]) -> Answer
+pub fn read(
+    image: &[u8],
+    numbers: &mut [u64],
+    orders: &mut [u8],
+    mailboxes: &mut [u8],
+) -> Result<(), ImageRefusal>
     ensures { took result numbers.new (stores orders.new mailboxes.new)
         ≡ taken image.now numbers.old orders.old mailboxes.old }
 {
     let f = image_sizes();
-    if numbers.len() != f.numbers {
-        return Answer::Lengths;
-    }
-    if orders.len() != f.store {
-        return Answer::Lengths;
-    }
-    if mailboxes.len() != f.store {
-        return Answer::Lengths;
+    if numbers.len() != f.numbers || orders.len() != f.store || mailboxes.len() != f.store {
+        return Err(ImageRefusal::WrongLength);
     }
     if !is_image(image) {
-        return Answer::Contents;
+        return Err(ImageRefusal::NotAdmitted);
     }
     take_numbers(start(0, f.fields), image, numbers);
     take_stores(image, orders, mailboxes);
-    Answer::Done
+    Ok(())
 }
 
 // Reads the numbers of an image, which is all the bytes handed in, and not its stores.
-pub fn read_numbers(image: &[u8], numbers: &mut [u64]) -> Answer
+pub fn read_numbers(image: &[u8], numbers: &mut [u64]) -> Result<(), ImageRefusal>
     ensures { took_numbers result numbers.new
         ≡ numbers_taken image.now numbers.old }
 {
     let f = image_sizes();
     if numbers.len() != f.numbers {
-        return Answer::Lengths;
+        return Err(ImageRefusal::WrongLength);
     }
     if !is_image(image) {
-        return Answer::Contents;
+        return Err(ImageRefusal::NotAdmitted);
     }
     take_numbers(start(0, f.fields), image, numbers);
-    Answer::Done
+    Ok(())
 }

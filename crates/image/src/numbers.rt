@@ -9,8 +9,7 @@ pub fn number_at(s: &[u8], at: usize, w: usize) -> u64
     requires { (w ≤ 8) × (at + w ≤ length s.now) }
     ensures { result ≡ number (take w (drop at s.now)) }
 {
-    let end = at + w;
-    number(&s[at..end])
+    number(&s[at..at + w])
 }
 
 // Writes the w bytes of x from a place on, the last byte first.
@@ -18,12 +17,10 @@ pub fn put_number(out: &mut [u8], at: usize, w: usize, x: u64)
     requires { at + w ≤ length out.old }
     ensures { out.new ≡ overwrite out.old at (bytes_of w x) }
 {
-    let mut y = x;
-    let mut i = w;
-    while 0 < i {
-        i -= 1;
-        out[at + i] = (y % 256) as u8;
-        y = y / 256;
+    let mut rest = x;
+    for i in (0..w).rev() {
+        out[at + i] = (rest % 256) as u8;
+        rest /= 256;
     }
 }
 
@@ -31,15 +28,5 @@ pub fn put_number(out: &mut [u8], at: usize, w: usize, x: u64)
 pub fn fits_width(w: usize, x: u64) -> bool
     ensures { result ≡ ltb x (256 ^ w) }
 {
-    match w {
-        0 => x < 1,
-        1 => x < 256,
-        2 => x < 65536,
-        3 => x < 16777216,
-        4 => x < 4294967296,
-        5 => x < 1099511627776,
-        6 => x < 281474976710656,
-        7 => x < 72057594037927936,
-        _ => true,
-    }
+    w >= 8 || x < 1 << (8 * w)
 }

@@ -8,6 +8,7 @@ use bank_state::limits::STORE_BYTES;
 // A field: its head as a number of so many bytes (tag and length; for the form's number the content too), which is the
 // same in every image; how many records it has, how many parts a record has besides the first, and their
 // lengths as hexadecimal digits, the first part's last; or the size of its store; how many bytes stand behind the head.
+// Plain numbers, 0 where a field has none of it, since `image_fields` in specs/ lists rows of this shape.
 #[derive(Clone, Copy)]
 pub struct Row {
     pub width: usize,
@@ -20,7 +21,7 @@ pub struct Row {
 }
 
 // How many fields an image has.
-const FIELD_COUNT: usize = 15;
+pub const FIELD_COUNT: usize = 15;
 
 // The form's number.
 const FORM: Row = Row {
@@ -176,6 +177,17 @@ const COUNTS: Row = Row {
     bytes: 56,
 };
 
+// Behind the last field.
+const NO_ROW: Row = Row {
+    width: 0,
+    head: 0,
+    records: 0,
+    more: 0,
+    widths: 0,
+    store: 0,
+    bytes: 0,
+};
+
 // The fields in the order of `image_fields`.
 const ROWS: [Row; FIELD_COUNT] = [
     FORM,
@@ -199,18 +211,7 @@ const ROWS: [Row; FIELD_COUNT] = [
 pub fn row_at(i: usize) -> Row
     ensures { result ≡ row_at i }
 {
-    if i < FIELD_COUNT {
-        return ROWS[i];
-    }
-    Row {
-        width: 0,
-        head: 0,
-        records: 0,
-        more: 0,
-        widths: 0,
-        store: 0,
-        bytes: 0,
-    }
+    if i < FIELD_COUNT { ROWS[i] } else { NO_ROW }
 }
 
 // How many fields an image has and how many numbers a session; the sizes of a store and of the image; where the places'
@@ -229,7 +230,7 @@ pub fn image_sizes() -> Sizes
     ensures { result ≡ image_sizes }
 {
     Sizes {
-        fields: 15,
+        fields: FIELD_COUNT as u64,
         numbers: 868,
         store: STORE_BYTES,
         image: 131920,

@@ -19,12 +19,50 @@ pub struct Cursor {
 }
 
 // What comes next: a head (its length and its number), a part or a store (its length), each with the place behind it.
+// Beside `Entry`, since `step_items` in the contract of `next` speaks of a step with its place.
 #[derive(Clone, Copy)]
 pub enum Step {
     Head(usize, u64, Cursor),
     Part(usize, Cursor),
     Store(usize, Cursor),
     Done,
+}
+
+// What the walk gives: a head (its length and its number), a part or a store (its length).
+#[derive(Clone, Copy)]
+pub enum Entry {
+    Head(usize, u64),
+    Part(usize),
+    Store(usize),
+}
+
+impl Iterator for Cursor {
+    ghost use Rattle.std.specs.Iterator.{item_count};
+    ghost use Rattle.image.specs.Walk.{rest, Walked};
+
+    type Item = Entry;
+
+    ghost next_gives = { Walked };
+
+    ghost remaining = { item_count rest };
+
+    fn next(&mut self) -> Option<Entry> {
+        match next(*self) {
+            Step::Head(w, h, behind) => {
+                *self = behind;
+                Some(Entry::Head(w, h))
+            }
+            Step::Part(w, behind) => {
+                *self = behind;
+                Some(Entry::Part(w))
+            }
+            Step::Store(z, behind) => {
+                *self = behind;
+                Some(Entry::Store(z))
+            }
+            Step::Done => None,
+        }
+    }
 }
 
 // The store of the field at hand, or the next field's head. Kept apart from the rest of the walk, which is short enough
@@ -34,29 +72,16 @@ fn next_field(c: Cursor) -> Step
     ensures { (step_items result ≡ rest c) × (step_width result ≤ 8) }
 {
     if c.store != 0 {
-        let d = Cursor {
-            field: c.field,
-            left: c.left,
-            store: 0,
-            records: 0,
-            more: 0,
-            all: 0,
-            parts: 0,
-            widths: 0,
-        };
-        return Step::Store(c.store, d);
+        return Step::Store(c.store, start(c.field, c.left));
     }
     if c.left != 0 {
         let r = row_at(c.field);
         let d = Cursor {
-            field: c.field % 256 + 1,
-            left: c.left - 1,
             store: r.store,
             records: r.records,
             more: r.more,
             all: r.widths,
-            parts: 0,
-            widths: 0,
+            ..start(c.field % 256 + 1, c.left - 1)
         };
         return Step::Head(r.width, r.head, d);
     }
@@ -69,27 +94,18 @@ pub fn next(c: Cursor) -> Step
 {
     if c.parts != 0 {
         let d = Cursor {
-            field: c.field,
-            left: c.left,
-            store: c.store,
-            records: c.records,
-            more: c.more,
-            all: c.all,
             parts: c.parts - 1,
             widths: c.widths / 16,
+            ..c
         };
         return Step::Part((c.widths % 16 % 9) as usize, d);
     }
     if c.records != 0 {
         let d = Cursor {
-            field: c.field,
-            left: c.left,
-            store: c.store,
             records: c.records - 1,
-            more: c.more,
-            all: c.all,
             parts: c.more,
             widths: c.all / 16,
+            ..c
         };
         return Step::Part((c.all % 16 % 9) as usize, d);
     }

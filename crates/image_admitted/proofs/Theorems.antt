@@ -1,5 +1,6 @@
 -- The theorems: a fresh session is one of the list, every call leaves one of the list, and what the calls rest on follows
 -- from the list alone. Assumes nothing.
+use Rattle.std.specs.Prelude.{Ok}
 use Prim.Native.Nat.{ℕ, ◌+◌, ◌≤◌}
 use mathlib.Core.Bool.{true}
 use mathlib.Core.List.{List, ◌++◌}
@@ -50,7 +51,6 @@ use Rattle.bank_admitted.proofs.Rows.{get_d-free}
 use Rattle.bank_admitted.proofs.SessionKept.{events-fit, frame-keeps, file-keeps}
 use Rattle.octets.specs.Bytes.{Bytes}
 use Rattle.message.proofs.Verdicts.{by-test}
-use Rattle.image_calls.specs.declared.calls.Away.TheVariants as away
 use Rattle.image_calls.specs.Calls.{
   image_length,
   image_in,
@@ -226,5 +226,5 @@ reached-in-list (after.taken {m} r image bytes) = taken-admitted m (reached-in-l
 
 -- "admits every image written": no session that calls leave gets number 9
 pub reached-put-away : {m : LentSession} → Reached m → (buffer : List ℕ) → image_length ≤ length buffer →
-    put_away m buffer ≡ put_away_of (away.Length image_length) (image_in m ++ drop image_length buffer)
+    put_away m buffer ≡ put_away_of (Ok image_length) (image_in m ++ drop image_length buffer)
 reached-put-away {m} r buffer room = let l = reached-in-list r in session-written m l.0 l.1 buffer room

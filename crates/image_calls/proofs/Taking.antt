@@ -1,4 +1,6 @@
 -- What taking up answers and leaves, case by case. Assumes nothing.
+use Rattle.image.specs.declared.codec.ImageRefusal.{ImageRefusal}
+use Rattle.std.specs.Prelude.{Err, Ok, Result}
 use Rattle.std.specs.Prelude.{◌≡◌, ℕ, ◌+◌, ◌-◌, ◌≤◌, Bool, true, false, cond, List, [], length, get_or, take, drop}
 use mathlib.Core.Path.{refl, sym, ap, ◌∙◌}
 use native.Mathlib.Omega.{arith}
@@ -9,16 +11,13 @@ use Rattle.journal.specs.Events.{record_count}
 use Rattle.journal.specs.Row.{replaced}
 use Rattle.bank_session.specs.Session.{LentSession, session}
 use Rattle.image.specs.declared.table.Sizes.{Sizes}
-use Rattle.image.specs.declared.codec.Answer.{Answer}
-use Rattle.image.specs.declared.codec.Answer.TheVariants.{Done, Contents}
+use Rattle.image.specs.declared.codec.ImageRefusal.TheVariants as refusal
 use Rattle.image.specs.Items.{image_items, image_sizes}
 use Rattle.image.specs.Image as codec
 use Rattle.image.proofs.Calls.{stores-are-parts, parts_within, image-long}
 use Rattle.image_records.specs.Layout.{number_count}
 use Rattle.image_conditions.specs.Conditions as list
 use Rattle.image_numbers.specs.Numbers.{rows_from, row_from}
-use Rattle.image_calls.specs.declared.calls.TakenUp.{TakenUp}
-use Rattle.image_calls.specs.declared.calls.TakenUp.TheVariants as up
 use Rattle.image_calls.specs.Calls.{
   lengths_right,
   numbers_from,
@@ -68,43 +67,43 @@ module _ (s : List ℕ) where
 
 -- ---- the numbers in an image
 
-module _ (s xs ys : List ℕ) (a : Answer) (long : length xs ≡ number_count)
+module _ (s xs ys : List ℕ) (a : Result (Unit {0}) ImageRefusal) (long : length xs ≡ number_count)
     (q : codec.took_numbers a ys ≡ codec.numbers_taken s xs) where
   abbrev IsImage : Bool
   IsImage = codec.is_image s
 
   abbrev TookBy : Bool → codec.TookNumbers
-  TookBy t = cond t (codec.took_numbers Done (numbers_from s)) (codec.took_numbers Contents xs)
+  TookBy t = cond t (codec.took_numbers (Ok tt) (numbers_from s)) (codec.took_numbers (Err refusal.NotAdmitted) xs)
 
   by-image : codec.took_numbers a ys ≡ TookBy IsImage
   unfolding codec.numbers_taken numbers_from
   by-image = q ∙ rw (eq-eqb (length xs) image_sizes.numbers (long ∙ sym numbers-size))
 
-  done_at : a ≡ Done → (t : Bool) → codec.took_numbers a ys ≡ TookBy t → (t ≡ true) × (ys ≡ numbers_from s)
+  done_at : a ≡ Ok tt → (t : Bool) → codec.took_numbers a ys ≡ TookBy t → (t ≡ true) × (ys ≡ numbers_from s)
   done_at d true p = (refl, ap (λ (o : codec.TookNumbers). o.numbers) p)
   done_at d false p =
       let k = ap (λ (o : codec.TookNumbers). o.answer) p in
       let z : ◌≡◌ {A = ℕ} 0 1 = cc in absurd (omega arith)
 
-  other_at : (a ≡ Done → ⊥) → (t : Bool) → codec.took_numbers a ys ≡ TookBy t → t ≡ false
+  other_at : (a ≡ Ok tt → ⊥) → (t : Bool) → codec.took_numbers a ys ≡ TookBy t → t ≡ false
   other_at n true p = absurd (n (ap (λ (o : codec.TookNumbers). o.answer) p))
   other_at n false p = refl
 
-  numbers-done : a ≡ Done → (IsImage ≡ true) × (ys ≡ numbers_from s)
+  numbers-done : a ≡ Ok tt → (IsImage ≡ true) × (ys ≡ numbers_from s)
   numbers-done d = done_at d IsImage by-image
 
-  pub image-done : a ≡ Done → length s ≡ image_sizes.image
+  pub image-done : a ≡ Ok tt → length s ≡ image_sizes.image
   image-done d = image-long image_sizes refl s (numbers-done d).0
 
   -- the answer of the list is the answer for the image
-  pub admitted-done : (d : a ≡ Done) (r : Bool) → r ≡ list.admitted ys (store_from 0 s) (store_from 1 s)
+  pub admitted-done : (d : a ≡ Ok tt) (r : Bool) → r ≡ list.admitted ys (store_from 0 s) (store_from 1 s)
       → (r ≡ is_admitted_image s) × (r ≡ true → ys ≡ numbers_from s)
   unfolding is_admitted_image
   admitted-done d r e =
       let n = numbers-done d in
       (e ∙ rw (n.0, n.1), λ k. n.1)
 
-  pub admitted-other : (a ≡ Done → ⊥) → (false ≡ is_admitted_image s) × (false ≡ true → ys ≡ numbers_from s)
+  pub admitted-other : (a ≡ Ok tt → ⊥) → (false ≡ is_admitted_image s) × (false ≡ true → ys ≡ numbers_from s)
   unfolding is_admitted_image
   admitted-other n =
       let e = other_at n IsImage by-image in
@@ -131,21 +130,21 @@ unfolding replaced
 row-taken taken held row e h = rw (e, eq-eqb (length row) record_count h)
 
 module _ (m : LentSession) (s : List ℕ) where
-  pub up-lengths : lengths_right m ≡ false → take_up_of up.WrongLength m ≡ take_up m s
+  pub up-lengths : lengths_right m ≡ false → take_up_of (Err refusal.WrongLength) m ≡ take_up m s
   unfolding take_up
   up-lengths h = rw h
 
   module _ (right : lengths_right m ≡ true) where
-    pub up-not : is_admitted_image s ≡ false → take_up_of up.NotAdmitted m ≡ take_up m s
+    pub up-not : is_admitted_image s ≡ false → take_up_of (Err refusal.NotAdmitted) m ≡ take_up m s
     unfolding take_up
     up-not h = rw (right, h)
 
-    pub up_done : is_admitted_image s ≡ true → take_up_of up.Done (session_from s) ≡ take_up m s
+    pub up_done : is_admitted_image s ≡ true → take_up_of (Ok tt) (session_from s) ≡ take_up m s
     unfolding take_up
     up_done h = rw (right, h)
 
 -- nothing is taken up: the answer is told, and the row stays
-pub refused-is : (rows orders mailboxes : List ℕ) (l held : List Event) (s : List ℕ) (answer told : TakenUp) (taken : Bool)
+pub refused-is : (rows orders mailboxes : List ℕ) (l held : List Event) (s : List ℕ) (answer told : Result (Unit {0}) ImageRefusal) (taken : Bool)
     → (answer ≡ told) × (taken ≡ false)
     → take_up_of told (session rows l orders mailboxes) ≡ take_up (session rows l orders mailboxes) s
     → take_up_of answer (session rows (replaced taken held l) orders mailboxes) ≡ take_up (session rows l orders mailboxes) s
@@ -162,7 +161,7 @@ module _ (rows orders mailboxes : List ℕ) (l : List Event) (s : List ℕ)
     (right : lengths_right (session rows l orders mailboxes) ≡ true) (holds : is_admitted_image s ≡ true) where
   pub done-is : (xs rows' orders' mailboxes' : List ℕ) (held : List Event) → xs ≡ numbers_from s → rows' ≡ rows_from xs
       → held ≡ row_from xs → orders' ≡ store_from 0 s → mailboxes' ≡ store_from 1 s
-      → take_up_of up.Done (session rows' (replaced true held l) orders' mailboxes')
+      → take_up_of (Ok tt) (session rows' (replaced true held l) orders' mailboxes')
       ≡ take_up (session rows l orders mailboxes) s
   done-is xs rows' orders' mailboxes' held e p q a b =
       let m = session rows l orders mailboxes in

@@ -1,5 +1,6 @@
 -- Cards 2, 11 and 12: what is put away is taken up again, equal sessions give equal bytes and only such bytes are accepted,
 -- older images get number 9, and what is refused changes nothing. Assumes nothing.
+use Rattle.std.specs.Prelude.{Err, Ok}
 use Rattle.std.specs.Prelude.{◌≡◌, ℕ, ◌<◌, ◌≤◌, Bool, true, false, cond, ◌&&◌, leb, List, [], ◌++◌, length, get_or, take, drop}
 use mathlib.Core.Path.{refl, sym, ap, ◌∙◌}
 use native.Mathlib.Nat.{zero-add}
@@ -10,7 +11,6 @@ use Rattle.octets.specs.Bytes.{Bytes, overwrite}
 use Rattle.octets.proofs.Tests.{and-true}
 use Rattle.bank_state.specs.Limits.{store_bytes}
 use Rattle.bank_session.specs.Session.{LentSession}
-use Rattle.image.specs.declared.codec.Answer.TheVariants.{Done}
 use Rattle.image.specs.Table.{form_number}
 use Rattle.image.specs.Items.{image_items, image_sizes}
 use Rattle.image.specs.Image as codec
@@ -20,8 +20,7 @@ use Rattle.image.proofs.Theorems as image
 use Rattle.image_records.specs.Layout.{number_count}
 use Rattle.image_conditions.specs.Conditions as list
 use Rattle.image_numbers.proofs.Laws as numbers
-use Rattle.image_calls.specs.declared.calls.Away.TheVariants as away
-use Rattle.image_calls.specs.declared.calls.TakenUp.TheVariants as up
+use Rattle.image.specs.declared.codec.ImageRefusal.TheVariants as refusal
 use Rattle.image_calls.specs.Calls.{
   image_length,
   numbers_of,
@@ -100,15 +99,15 @@ module _ (m : LentSession) (right : lengths_right m ≡ true) (holds : is_admitt
       )
 
   -- "taking up gives back the session written, whatever stood there"
-  pub taken_back : (n : LentSession) → lengths_right n ≡ true → take_up n (image_in m) ≡ take_up_of up.Done m
-  taken_back n k = sym (up_done n (image_in m) k image-admitted) ∙ ap (take_up_of up.Done) session-again
+  pub taken_back : (n : LentSession) → lengths_right n ≡ true → take_up n (image_in m) ≡ take_up_of (Ok tt) m
+  taken_back n k = sym (up_done n (image_in m) k image-admitted) ∙ ap (take_up_of (Ok tt)) session-again
 
   -- "in a lent buffer, bytes behind them untouched"
   pub session-written : (buffer : List ℕ) → image_length ≤ length buffer
-      → put_away m buffer ≡ put_away_of (away.Length image_length) (image_in m ++ drop image_length buffer)
+      → put_away m buffer ≡ put_away_of (Ok image_length) (image_in m ++ drop image_length buffer)
   session-written buffer k =
       sym (away-done m buffer right k holds)
-      ∙ ap (put_away_of (away.Length image_length)) (over-front buffer (image_in m) image_length image-long)
+      ∙ ap (put_away_of (Ok image_length)) (over-front buffer (image_in m) image_length image-long)
 
 -- "equal sessions give equal bytes"
 pub equal-sessions : (m n : LentSession) → m ≡ n → image_in m ≡ image_in n
@@ -125,8 +124,8 @@ module _ (m : LentSession) (buffer : List ℕ) where
   abbrev AwayBy : Bool → Bool → PutAway
   AwayBy t u =
       cond t
-      (cond u (put_away_of (away.Length image_length) (overwrite buffer 0 (image_in m))) (put_away_of away.NotAdmitted buffer))
-      (put_away_of away.WrongLength buffer)
+      (cond u (put_away_of (Ok image_length) (overwrite buffer 0 (image_in m))) (put_away_of (Err refusal.NotAdmitted) buffer))
+      (put_away_of (Err refusal.WrongLength) buffer)
 
   unchanged-by : (t u : Bool) → ((AwayBy t u).number ≡ 0 → ⊥) → (AwayBy t u).buffer ≡ buffer
   unchanged-by true true h = absurd (h refl)
@@ -138,13 +137,13 @@ module _ (m : LentSession) (buffer : List ℕ) where
   unfolding put_away
   refused-away h = unchanged-by (lengths_right m && leb image_length (length buffer)) (is_admitted m) h
 
-  done-by : (t u : Bool) (k : ℕ) → (AwayBy t u).answer ≡ away.Length k → (t ≡ true) × (u ≡ true) × (k ≡ image_length)
+  done-by : (t u : Bool) (k : ℕ) → (AwayBy t u).answer ≡ Ok k → (t ≡ true) × (u ≡ true) × (k ≡ image_length)
   done-by true true k e = (refl, refl, (cc))
   done-by true false k e = let z : ◌≡◌ {A = ℕ} 0 1 = cc in absurd (omega arith)
   done-by false u k e = let z : ◌≡◌ {A = ℕ} 0 1 = cc in absurd (omega arith)
 
   -- a session that is put away has its lengths and is one of the list
-  pub put-away-done : (k : ℕ) → (put_away m buffer).answer ≡ away.Length k
+  pub put-away-done : (k : ℕ) → (put_away m buffer).answer ≡ Ok k
       → (lengths_right m ≡ true) × (image_length ≤ length buffer) × (is_admitted m ≡ true) × (k ≡ image_length)
   unfolding put_away
   put-away-done k e =
@@ -153,8 +152,8 @@ module _ (m : LentSession) (buffer : List ℕ) where
       (p.0, leb-true image_length (length buffer) p.1, d.1, d.2)
 
   -- and is what taking up the bytes written leaves
-  pub put-away-taken-up : (k : ℕ) → (put_away m buffer).answer ≡ away.Length k → (n : LentSession) → lengths_right n ≡ true
-      → take_up n (take k (put_away m buffer).buffer) ≡ take_up_of up.Done m
+  pub put-away-taken-up : (k : ℕ) → (put_away m buffer).answer ≡ Ok k → (n : LentSession) → lengths_right n ≡ true
+      → take_up n (take k (put_away m buffer).buffer) ≡ take_up_of (Ok tt) m
   put-away-taken-up k e n h =
       let d = put-away-done k e in
       let w = ap (λ (o : PutAway). o.buffer) (session-written m d.0 d.2 buffer d.1) in
@@ -185,7 +184,7 @@ module _ (s : List ℕ) (holds : is_admitted_image s ≡ true) where
   session-numbers =
       numbers.numbers-back xs image-sizes.0 (listed-kinds xs (store_from 0 s) (store_from 1 s) image-listed)
 
-  read : codec.taken s xs (store_from 0 s) (store_from 1 s) ≡ codec.took Done xs (codec.stores (store_from 0 s) (store_from 1 s))
+  read : codec.taken s xs (store_from 0 s) (store_from 1 s) ≡ codec.took (Ok tt) xs (codec.stores (store_from 0 s) (store_from 1 s))
   unfolding numbers_from
   read =
       sym (taken-done image_sizes refl xs (store_from 0 s) (store_from 1 s) s
@@ -211,7 +210,7 @@ module _ (s : List ℕ) (holds : is_admitted_image s ≡ true) where
 module _ (m : LentSession) (s : List ℕ) where
   abbrev UpBy : Bool → Bool → TakeUp
   UpBy t u =
-      cond t (cond u (take_up_of up.Done (session_from s)) (take_up_of up.NotAdmitted m)) (take_up_of up.WrongLength m)
+      cond t (cond u (take_up_of (Ok tt) (session_from s)) (take_up_of (Err refusal.NotAdmitted) m)) (take_up_of (Err refusal.WrongLength) m)
 
   stays_by : (t u : Bool) → ((UpBy t u).number ≡ 0 → ⊥) → (UpBy t u).session ≡ m
   stays_by true true h = absurd (h refl)
@@ -230,20 +229,20 @@ module _ (m : LentSession) (s : List ℕ) where
 
   -- "Any other form's number is number 9", so "older images get number 9"
   pub other-form : Bytes s → lengths_right m ≡ true → (get_or s 3 0 ≡ form_number → ⊥)
-      → take_up m s ≡ take_up_of up.NotAdmitted m
+      → take_up m s ≡ take_up_of (Err refusal.NotAdmitted) m
   other-form bytes right other =
       sym (up-not m s right (not-image (codec.is_image s) refl (λ e. other (form-number s bytes e))))
 
   -- those of cards 2, 3, 5, 6, 8 and 11
-  pub older-refused : Bytes s → lengths_right m ≡ true → get_or s 3 0 < form_number → take_up m s ≡ take_up_of up.NotAdmitted m
+  pub older-refused : Bytes s → lengths_right m ≡ true → get_or s 3 0 < form_number → take_up m s ≡ take_up_of (Err refusal.NotAdmitted) m
   older-refused bytes right older = other-form bytes right (λ e. omega (arith, older, e))
 
-  taken-by : (t u : Bool) → (UpBy t u).answer ≡ up.Done → (t ≡ true) × (u ≡ true) × ((UpBy t u).session ≡ session_from s)
+  taken-by : (t u : Bool) → (UpBy t u).answer ≡ Ok tt → (t ≡ true) × (u ≡ true) × ((UpBy t u).session ≡ session_from s)
   taken-by true true e = (refl, refl, refl)
   taken-by true false e = let z : ◌≡◌ {A = ℕ} 0 1 = cc in absurd (omega arith)
   taken-by false u e = let z : ◌≡◌ {A = ℕ} 0 1 = cc in absurd (omega arith)
 
-  module _ (done : (take_up m s).answer ≡ up.Done) where
+  module _ (done : (take_up m s).answer ≡ Ok tt) where
     pub take-up-done : (lengths_right m ≡ true) × (is_admitted_image s ≡ true) × ((take_up m s).session ≡ session_from s)
     unfolding take_up
     take-up-done = taken-by (lengths_right m) (is_admitted_image s) done

@@ -1,20 +1,16 @@
 -- Card 2, the two calls: putting a session away and taking it up, with every number, record and byte that they leave.
+use Rattle.image.specs.declared.codec.ImageRefusal.{ImageRefusal}
+use Rattle.std.specs.Prelude.{Err, Ok, Result}
 use Rattle.std.specs.Prelude.{ℕ, Bool, cond, ◌&&◌, List, [], length, ◌==◌, nat_le, slice_index_or}
-use Rattle.number_table.specs.Table as numbers
 use Rattle.octets.specs.Bytes.{overwrite}
 use Rattle.journal.specs.Events.{record_count}
 use Rattle.bank_state.specs.Limits.{store_bytes}
 use Rattle.bank_session.specs.Session.{LentSession, session, session_size}
-use Rattle.image.specs.declared.codec.Answer.{Answer}
-use Rattle.image.specs.declared.codec.Answer.TheVariants as codec-answer
+use Rattle.image.specs.declared.codec.ImageRefusal.TheVariants as refusal
 use Rattle.image.specs.Items.{image_items, image_sizes}
 use Rattle.image.specs.Image as codec
 use Rattle.image_conditions.specs.Conditions as list
 use Rattle.image_numbers.specs.Numbers.{numbers_in, rows_from, row_from}
-use Rattle.image_calls.specs.declared.calls.Away.{Away}
-use Rattle.image_calls.specs.declared.calls.Away.TheVariants as away
-use Rattle.image_calls.specs.declared.calls.TakenUp.{TakenUp}
-use Rattle.image_calls.specs.declared.calls.TakenUp.TheVariants as up
 
 -- the length of an image
 abbrev pub image_length : ℕ
@@ -43,25 +39,23 @@ is_admitted m =
 -- ---- putting away
 
 -- document 01's number for an answer, 0 where the session is put away
-abbrev pub away_number : Away → ℕ
-away_number (away.Length n) = 0
-away_number away.WrongLength = numbers.wrong_length
-away_number away.NotAdmitted = numbers.not_admitted
+abbrev pub away_number : Result ℕ ImageRefusal → ℕ
+away_number (Ok n) = 0
+away_number (Err r) = codec.image_refusal_number r
 
 -- what the call leaves: the buffer, the answer, document 01's number for it; nothing of the session changes
 pub record PutAway : Type 0 where
   pub buffer : List ℕ
-  pub answer : Away
+  pub answer : Result ℕ ImageRefusal
   pub number : ℕ
 
-abbrev pub put_away_of : Away → List ℕ → PutAway
+abbrev pub put_away_of : Result ℕ ImageRefusal → List ℕ → PutAway
 put_away_of r buffer = record { buffer = buffer; answer = r; number = away_number r }
 
 -- the answer where the codec has written an image, or has not
-abbrev pub away_of : Answer → Away
-away_of codec-answer.Done = away.Length image_length
-away_of codec-answer.Lengths = away.WrongLength
-away_of codec-answer.Contents = away.NotAdmitted
+abbrev pub away_of : Result (Unit {0}) ImageRefusal → Result ℕ ImageRefusal
+away_of (Ok u) = Ok image_length
+away_of (Err r) = Err r
 
 -- "Number 1: a store or the row has another length, or the buffer is shorter than the image (a longer one is allowed;
 -- bytes behind the image are untouched). Then number 9: the session is not one of the list. Else the image is written"
@@ -69,25 +63,24 @@ unfoldable pub put_away : LentSession → List ℕ → PutAway
 put_away m buffer =
     cond (lengths_right m && nat_le image_length (length buffer))
     (cond (is_admitted m)
-    (put_away_of (away.Length image_length) (overwrite buffer 0 (image_in m)))
-    (put_away_of away.NotAdmitted buffer))
-    (put_away_of away.WrongLength buffer)
+    (put_away_of (Ok image_length) (overwrite buffer 0 (image_in m)))
+    (put_away_of (Err refusal.NotAdmitted) buffer))
+    (put_away_of (Err refusal.WrongLength) buffer)
 
 -- ---- taking up
 
 -- document 01's number for an answer, 0 where the session is taken up
-abbrev pub taken_up_number : TakenUp → ℕ
-taken_up_number up.Done = 0
-taken_up_number up.WrongLength = numbers.wrong_length
-taken_up_number up.NotAdmitted = numbers.not_admitted
+abbrev pub taken_up_number : Result (Unit {0}) ImageRefusal → ℕ
+taken_up_number (Ok u) = 0
+taken_up_number (Err r) = codec.image_refusal_number r
 
 -- what the call leaves: the session, the answer, document 01's number for it
 pub record TakeUp : Type 0 where
   pub session : LentSession
-  pub answer : TakenUp
+  pub answer : Result (Unit {0}) ImageRefusal
   pub number : ℕ
 
-abbrev pub take_up_of : TakenUp → LentSession → TakeUp
+abbrev pub take_up_of : Result (Unit {0}) ImageRefusal → LentSession → TakeUp
 take_up_of r m = record { session = m; answer = r; number = taken_up_number r }
 
 -- the numbers and the stores in an image
@@ -113,5 +106,5 @@ session_from image =
 unfoldable pub take_up : LentSession → List ℕ → TakeUp
 take_up m image =
     cond (lengths_right m)
-    (cond (is_admitted_image image) (take_up_of up.Done (session_from image)) (take_up_of up.NotAdmitted m))
-    (take_up_of up.WrongLength m)
+    (cond (is_admitted_image image) (take_up_of (Ok tt) (session_from image)) (take_up_of (Err refusal.NotAdmitted) m))
+    (take_up_of (Err refusal.WrongLength) m)

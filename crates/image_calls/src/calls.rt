@@ -5,24 +5,9 @@ ghost use Rattle.bank_session.specs.Session.{session};
 ghost use Rattle.image_calls.specs.Calls.{put_away_of, put_away, take_up_of, take_up};
 
 use crate::told::{put_away_core, take_up_core};
+use image::codec::ImageRefusal;
 use journal::event::Event;
 use journal::row::{held_row, replace_row};
-
-// What putting away answers: the length of the image; number 1; or number 9.
-#[derive(Clone, Copy)]
-pub enum Away {
-    Length(usize),
-    WrongLength,
-    NotAdmitted,
-}
-
-// What taking up answers: done; number 1; or number 9.
-#[derive(Clone, Copy)]
-pub enum TakenUp {
-    Done,
-    WrongLength,
-    NotAdmitted,
-}
 
 // A session is put away into a lent buffer, with its numbers, the journal's row and both stores lent.
 pub fn put_away(
@@ -31,7 +16,7 @@ pub fn put_away(
     orders: &[u8],
     mailboxes: &[u8],
     buffer: &mut [u8],
-) -> Away
+) -> Result<usize, ImageRefusal>
     ensures { put_away_of result buffer.new
         ≡ put_away (session rows.now row.now orders.now mailboxes.now)
         buffer.old }
@@ -47,7 +32,7 @@ pub fn take_up(
     orders: &mut [u8],
     mailboxes: &mut [u8],
     image: &[u8],
-) -> TakenUp
+) -> Result<(), ImageRefusal>
     ensures { take_up_of result
         (session rows.new row.new orders.new mailboxes.new)
         ≡ take_up (session rows.old row.old orders.old mailboxes.old)

@@ -3,14 +3,14 @@ ghost use Rattle.std.specs.Prelude.{◌≡◌};
 ghost use Rattle.bank_session.specs.Session.{session};
 ghost use Rattle.image_calls.specs.Calls.{put_away_of, put_away, take_up_of, take_up};
 
-use crate::calls::{Away, TakenUp};
 use crate::told::{put_away_core, take_up_core};
+use image::codec::ImageRefusal;
 use journal::event::{Event, RECORD_COUNT};
 
 // The answer of taking up, and the row after it.
 #[derive(Drop)]
 pub struct TakeUpHeld {
-    pub answer: TakenUp,
+    pub answer: Result<(), ImageRefusal>,
     pub row: [Event; RECORD_COUNT],
 }
 
@@ -21,7 +21,7 @@ pub fn put_away_held(
     orders: &[u8],
     mailboxes: &[u8],
     buffer: &mut [u8],
-) -> Away
+) -> Result<usize, ImageRefusal>
     ensures { put_away_of result buffer.new
         ≡ put_away (session rows.now row orders.now mailboxes.now)
         buffer.old }
@@ -44,9 +44,10 @@ pub fn take_up_held(
 {
     let c = take_up_core(rows, RECORD_COUNT, orders, mailboxes, image);
     let answer = c.answer;
-    if !c.taken {
-        return TakeUpHeld { answer, row };
+    if c.taken {
+        let row = c.row;
+        TakeUpHeld { answer, row }
+    } else {
+        TakeUpHeld { answer, row }
     }
-    let taken = c.row;
-    TakeUpHeld { answer, row: taken }
 }

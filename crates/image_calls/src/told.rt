@@ -10,10 +10,9 @@ ghost use Rattle.image_conditions.specs.Conditions as list;
 ghost use Rattle.image_calls.specs.Calls.{sizes_right, away_of, put_away_of, put_away, take_up_of, take_up};
 ghost use Rattle.image_calls.specs.Calls.{numbers_from, store_from, is_admitted_image};
 
-use crate::calls::{Away, TakenUp};
 use bank_session::layout::SESSION_SIZE;
 use bank_state::limits::STORE_BYTES;
-use image::codec::{Answer, read_numbers, take_stores, write};
+use image::codec::{ImageRefusal, read_numbers, take_stores, write};
 use image::table::image_sizes;
 use image_conditions::conditions::admitted;
 use image_numbers::events::row_from;
@@ -22,9 +21,10 @@ use image_records::layout::NUMBER_COUNT;
 use journal::event::{Event, Kind, RECORD_COUNT};
 
 // What taking up comes to, but for the row: its answer, whether another row is taken, and that row.
+// A flag beside the row and no Option, since `take_up_core` ensures what `replaced` makes of the two.
 #[derive(Drop)]
 pub struct TakeUpCore {
-    pub answer: TakenUp,
+    pub answer: Result<(), ImageRefusal>,
     pub taken: bool,
     pub row: [Event; RECORD_COUNT],
 }
@@ -33,28 +33,21 @@ pub struct TakeUpCore {
 fn sizes_right(rows: usize, records: usize, orders: usize, mailboxes: usize) -> bool
     ensures { result ≡ sizes_right rows records orders mailboxes }
 {
-    if rows != SESSION_SIZE {
-        return false;
-    }
-    if records != RECORD_COUNT {
-        return false;
-    }
-    if orders != STORE_BYTES {
-        return false;
-    }
-    mailboxes == STORE_BYTES
+    rows == SESSION_SIZE
+        && records == RECORD_COUNT
+        && orders == STORE_BYTES
+        && mailboxes == STORE_BYTES
 }
 
 // ---- putting away
 
 // The answer where an image is written, or is not.
-fn away_of(answer: Answer) -> Away
+fn away_of(answer: Result<(), ImageRefusal>) -> Result<usize, ImageRefusal>
     ensures { result ≡ away_of answer }
 {
     match answer {
-        Answer::Done => Away::Length(image_sizes().image),
-        Answer::Lengths => Away::WrongLength,
-        Answer::Contents => Away::NotAdmitted,
+        Ok(()) => Ok(image_sizes().image),
+        Err(refusal) => Err(refusal),
     }
 }
 
@@ -66,21 +59,21 @@ pub fn put_away_core(
     orders: &[u8],
     mailboxes: &[u8],
     buffer: &mut [u8],
-) -> Away
+) -> Result<usize, ImageRefusal>
     ensures { (l : List Event) → length l ≡ records → (records ≡ record_count → row ≡ l)
         → put_away_of result buffer.new
         ≡ put_away (session rows.now l orders.now mailboxes.now) buffer.old }
 {
     if !sizes_right(rows.len(), records, orders.len(), mailboxes.len()) {
-        return Away::WrongLength;
+        return Err(ImageRefusal::WrongLength);
     }
     if buffer.len() < image_sizes().image {
-        return Away::WrongLength;
+        return Err(ImageRefusal::WrongLength);
     }
     let mut numbers = [0u64; NUMBER_COUNT];
     gather(rows, row, &mut numbers);
     if !admitted(&numbers, orders, mailboxes) {
-        return Away::NotAdmitted;
+        return Err(ImageRefusal::NotAdmitted);
     }
     away_of(write(&numbers, orders, mailboxes, buffer))
 }
@@ -94,15 +87,9 @@ fn holds_list(image: &[u8], numbers: &[u64]) -> bool
         (store_from 0 image.now) (store_from 1 image.now) }
 {
     let f = image_sizes();
-    let orders = f.orders;
-    let orders_end = orders + f.store;
-    let mailboxes = f.mailboxes;
-    let mailboxes_end = mailboxes + f.store;
-    admitted(
-        numbers,
-        &image[orders..orders_end],
-        &image[mailboxes..mailboxes_end],
-    )
+    let orders = &image[f.orders..f.orders + f.store];
+    let mailboxes = &image[f.mailboxes..f.mailboxes + f.store];
+    admitted(numbers, orders, mailboxes)
 }
 
 // Whether the bytes are an admitted image; then its numbers are read.
@@ -111,19 +98,16 @@ fn read_admitted(image: &[u8], numbers: &mut [u64]) -> bool
     ensures { (result ≡ is_admitted_image image.now)
         × (result ≡ true → numbers.new ≡ numbers_from image.now) }
 {
-    let answer = read_numbers(image, numbers);
-    match answer {
-        Answer::Done => holds_list(image, numbers),
-        Answer::Lengths => false,
-        Answer::Contents => false,
+    match read_numbers(image, numbers) {
+        Ok(()) => holds_list(image, numbers),
+        Err(_) => false,
     }
 }
 
 // Nothing is taken up.
-fn refused(answer: TakenUp) -> TakeUpCore
+fn refused(answer: Result<(), ImageRefusal>) -> TakeUpCore
     ensures { (result.answer ≡ answer) × (result.taken ≡ false) }
 {
-    let kind = Kind::Unused;
     let none = Event {
         number: 0,
         clock: 0,
@@ -132,13 +116,12 @@ fn refused(answer: TakenUp) -> TakeUpCore
         order: 0,
         high: 0,
         low: 0,
-        kind,
+        kind: Kind::Unused,
     };
-    let row = [none; RECORD_COUNT];
     TakeUpCore {
         answer,
         taken: false,
-        row,
+        row: [none; RECORD_COUNT],
     }
 }
 
@@ -156,18 +139,17 @@ pub fn take_up_core(
         ≡ take_up (session rows.old l orders.old mailboxes.old) image.now }
 {
     if !sizes_right(rows.len(), records, orders.len(), mailboxes.len()) {
-        return refused(TakenUp::WrongLength);
+        return refused(Err(ImageRefusal::WrongLength));
     }
     let mut numbers = [0u64; NUMBER_COUNT];
     if !read_admitted(image, &mut numbers) {
-        return refused(TakenUp::NotAdmitted);
+        return refused(Err(ImageRefusal::NotAdmitted));
     }
     scatter(&numbers, rows);
     take_stores(image, orders, mailboxes);
-    let row = row_from(&numbers);
     TakeUpCore {
-        answer: TakenUp::Done,
+        answer: Ok(()),
         taken: true,
-        row,
+        row: row_from(&numbers),
     }
 }

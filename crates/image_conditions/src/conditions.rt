@@ -16,7 +16,6 @@ use crate::tables::{
 use bank_state::limits::{MAX_OPENINGS, STORE_BYTES};
 use frame_table::table::LAST_TIME;
 use image_records::layout::{CLOCK, DOWNLOAD_COUNT_AT, NONCE_COUNT_AT, NUMBER_COUNT, OPENINGS};
-use image_records::tests::both;
 
 fn clock_fits(numbers: &[u64]) -> bool
     requires { length numbers.now ≡ number_count }
@@ -32,11 +31,12 @@ fn openings_fit(numbers: &[u64]) -> bool
     numbers[OPENINGS] <= MAX_OPENINGS
 }
 
+#[tactic(auto, unfolding(crate::specs::Conditions::series_conditions))]
 fn series_conditions(numbers: &[u64]) -> bool
     requires { length numbers.now ≡ number_count }
     ensures { result ≡ series_conditions numbers.now }
 {
-    both(every_series(numbers), both(series_sum(numbers), true))
+    every_series(numbers) && series_sum(numbers)
 }
 
 fn nonce_count_fits(numbers: &[u64]) -> bool
@@ -53,79 +53,68 @@ fn download_count_fits(numbers: &[u64]) -> bool
     numbers[DOWNLOAD_COUNT_AT] <= 8
 }
 
+#[tactic(auto, unfolding(crate::specs::Conditions::nonce_conditions))]
 fn nonce_conditions(numbers: &[u64]) -> bool
     requires { length numbers.now ≡ number_count }
     ensures { result ≡ nonce_conditions numbers.now }
 {
-    let distinct = both(nonces_distinct(numbers), both(nonces_unused(numbers), true));
-    both(
-        nonce_count_fits(numbers),
-        both(every_nonce(numbers), distinct),
-    )
+    nonce_count_fits(numbers)
+        && every_nonce(numbers)
+        && nonces_distinct(numbers)
+        && nonces_unused(numbers)
 }
 
+#[tactic(auto, unfolding(crate::specs::Conditions::download_conditions))]
 fn download_conditions(numbers: &[u64]) -> bool
     requires { length numbers.now ≡ number_count }
     ensures { result ≡ download_conditions numbers.now }
 {
-    let unused = both(downloads_unused(numbers), true);
-    both(
-        download_count_fits(numbers),
-        both(every_download(numbers), unused),
-    )
+    download_count_fits(numbers) && every_download(numbers) && downloads_unused(numbers)
 }
 
+#[tactic(auto, unfolding(crate::specs::Conditions::open_conditions))]
 fn open_conditions(numbers: &[u64]) -> bool
     requires { length numbers.now ≡ number_count }
     ensures { result ≡ open_conditions numbers.now }
 {
-    let open = both(open_in_all(numbers), both(every_subscriber(numbers), true));
-    both(
-        orders_distinct(numbers),
-        both(numbers_distinct(numbers), open),
-    )
+    orders_distinct(numbers)
+        && numbers_distinct(numbers)
+        && open_in_all(numbers)
+        && every_subscriber(numbers)
 }
 
+#[tactic(auto, unfolding(crate::specs::Conditions::journal_conditions))]
 fn journal_conditions(numbers: &[u64]) -> bool
     requires { length numbers.now ≡ number_count }
     ensures { result ≡ journal_conditions numbers.now }
 {
-    both(
-        events_fit(numbers),
-        both(every_event(numbers), both(journal_unused(numbers), true)),
-    )
+    events_fit(numbers) && every_event(numbers) && journal_unused(numbers)
 }
 
+#[tactic(auto, unfolding(crate::specs::Conditions::count_conditions))]
 fn count_conditions(numbers: &[u64]) -> bool
     requires { length numbers.now ≡ number_count }
     ensures { result ≡ count_conditions numbers.now }
 {
-    both(
-        counts_open(numbers),
-        both(counts_booked(numbers), both(counts_sum(numbers), true)),
-    )
+    counts_open(numbers) && counts_booked(numbers) && counts_sum(numbers)
 }
 
+#[tactic(auto, unfolding(crate::specs::Conditions::conditions))]
 fn conditions(numbers: &[u64], orders: &[u8], mailboxes: &[u8]) -> bool
     requires { (length numbers.now ≡ number_count) × (length orders.now ≡ store_bytes)
         × (length mailboxes.now ≡ store_bytes) }
     ensures { result ≡ conditions numbers.now orders.now mailboxes.now }
 {
-    let counts = both(count_conditions(numbers), true);
-    let journal = both(
-        every_mailbox(numbers, mailboxes),
-        both(journal_conditions(numbers), counts),
-    );
-    let places = both(
-        every_place(numbers, orders),
-        both(open_conditions(numbers), journal),
-    );
-    let nonces = both(
-        nonce_conditions(numbers),
-        both(download_conditions(numbers), places),
-    );
-    let series = both(series_conditions(numbers), nonces);
-    both(clock_fits(numbers), both(openings_fit(numbers), series))
+    clock_fits(numbers)
+        && openings_fit(numbers)
+        && series_conditions(numbers)
+        && nonce_conditions(numbers)
+        && download_conditions(numbers)
+        && every_place(numbers, orders)
+        && open_conditions(numbers)
+        && every_mailbox(numbers, mailboxes)
+        && journal_conditions(numbers)
+        && count_conditions(numbers)
 }
 
 // Whether the session is one of the list; no other lengths are.
@@ -133,14 +122,8 @@ fn conditions(numbers: &[u64], orders: &[u8], mailboxes: &[u8]) -> bool
 pub fn admitted(numbers: &[u64], orders: &[u8], mailboxes: &[u8]) -> bool
     ensures { result ≡ admitted numbers.now orders.now mailboxes.now }
 {
-    if numbers.len() != NUMBER_COUNT {
-        return false;
-    }
-    if orders.len() != STORE_BYTES {
-        return false;
-    }
-    if mailboxes.len() != STORE_BYTES {
-        return false;
-    }
-    both(conditions(numbers, orders, mailboxes), true)
+    numbers.len() == NUMBER_COUNT
+        && orders.len() == STORE_BYTES
+        && mailboxes.len() == STORE_BYTES
+        && conditions(numbers, orders, mailboxes)
 }

@@ -1,8 +1,8 @@
 // The conditions of all records of a kind, of places and open downloads together, and of the bytes behind a length.
-ghost use Rattle.std.specs.Prelude.{◌≡◌, not, ◌+◌, ◌-◌, ◌*◌, ◌≤◌, ◌<◌, length};
+ghost use Rattle.std.specs.Prelude.{◌≡◌, ℕ, Bool, not, ◌+◌, ◌-◌, ◌*◌, ◌≤◌, ◌<◌, length, slice_index, SomeIff};
 ghost use Rattle.message.specs.Limits.{subscribers, file_bytes};
 ghost use Rattle.bank_state.specs.Limits.{place_count, nonce_count, store_bytes};
-ghost use Rattle.image_records.specs.Shapes.{every, count, all_zero, unused};
+ghost use Rattle.image_records.specs.Shapes.{count, total, distinct, all_zero, unused};
 ghost use Rattle.image_records.specs.Layout.{number_count, nonces, downloads, used_events, slot_count};
 ghost use Rattle.image_conditions.specs.Conditions.{series_fits, every_series, is_ahead, chosen_ahead, series_sum};
 ghost use Rattle.image_conditions.specs.Conditions.{same_nonce, nonces_distinct, nonces_unused, every_nonce};
@@ -19,17 +19,18 @@ ghost use Rattle.image_conditions.specs.Conditions.{counts_open, is_booked_place
 
 use bank_state::limits::{NONCE_COUNT, PLACE_COUNT, SERIES_LIMIT};
 use image_records::layout::{
-    CLOCK, COUNT_SIZE, DOWNLOAD_WIDTH, DOWNLOADS, EVENT_WIDTH, EVENTS, JOURNAL, NONCE_WIDTH,
-    NONCES, OPENINGS, SLOT_COUNT, count_at, counter_at, counter_of, download_at, downloads,
-    event_at, file_at, file_of, nonce_at, nonces, place_at, slot_at, used_events,
+    CLOCK, COUNTS, DOWNLOAD_WIDTH, DOWNLOADS, EVENT_WIDTH, EVENTS, JOURNAL, NONCE_WIDTH, NONCES,
+    NUMBER_COUNT, OPENINGS, SERIES, SLOT_COUNT, count_at, counter_at, counter_of, download_at,
+    downloads, event_at, file_at, file_of, nonce_at, nonces, place_at, slot_at, used_events,
 };
 use image_records::records::{download_holds, event_holds, nonce_time, place_holds};
-use image_records::tests::{at_most_twice_and, both, one_if, up_to, zero_bytes, zero_numbers};
+use image_records::tests::{at_most_twice_and, up_to, zero_bytes, zero_numbers};
 use journal::event::RECORD_COUNT;
 use message::limits::FILE_BYTES;
 use signers::set;
 
 // Whether the numbers of records from one on, up to the end of their field, are 0.
+#[tactic(auto, unfolding(image_records::specs::Shapes::unused))]
 fn unused(numbers: &[u64], at: usize, width: usize, used: usize, all: usize) -> bool
     requires { (used * width ≤ width * all) × (at + width * all ≤ length numbers.now)
         × (length numbers.now ≡ number_count) }
@@ -40,8 +41,26 @@ fn unused(numbers: &[u64], at: usize, width: usize, used: usize, all: usize) -> 
     zero_numbers(&numbers[from..end])
 }
 
+// Whether no two of some records are the same, where a test says of two, the later one first, whether they differ.
+fn distinct<F: Fn(usize, usize) -> bool>(n: usize, differ: F) -> bool
+    requires { (i j : ℕ) → i < n → j < i → F.pre differ i j }
+    ensures { (same : ℕ → ℕ → Bool)
+        → ((i j : ℕ) (r : Bool) → i < n → j < i → F.post differ i j r → r ≡ not (same i j))
+        → result ≡ distinct same n }
+{
+    for i in 0..n {
+        for j in 0..i {
+            if !differ(i, j) {
+                return false;
+            }
+        }
+    }
+    true
+}
+
 // ---- series
 
+#[tactic(auto, unfolding(crate::specs::Conditions::series_fits))]
 fn series_fits(numbers: &[u64], i: usize) -> bool
     requires { (i < place_count) × (length numbers.now ≡ number_count) }
     ensures { result ≡ series_fits numbers.now i }
@@ -53,22 +72,17 @@ pub fn every_series(numbers: &[u64]) -> bool
     requires { length numbers.now ≡ number_count }
     ensures { result ≡ every_series numbers.now }
 {
-    let mut ok = true;
-    let mut i = 0;
-    while i < PLACE_COUNT {
-        ok = both(series_fits(numbers, i), ok);
-        i += 1;
-    }
-    ok
+    (0..PLACE_COUNT).all(|i| series_fits(numbers, i))
 }
 
 // Whether a place is in use with an order number that its subscriber's counter has not reached.
+#[tactic(auto, unfolding(crate::specs::Conditions::is_ahead))]
 fn is_ahead(numbers: &[u64], i: usize) -> bool
     requires { (i < place_count) × (length numbers.now ≡ number_count) }
     ensures { result ≡ is_ahead numbers.now i }
 {
     let p = place_at(numbers, i);
-    both(0 < p.state, counter_of(numbers, p.subscriber) <= p.order)
+    0 < p.state && counter_of(numbers, p.subscriber) <= p.order
 }
 
 // How many places are so.
@@ -76,36 +90,36 @@ fn chosen_ahead(numbers: &[u64]) -> u64
     requires { length numbers.now ≡ number_count }
     ensures { result ≡ chosen_ahead numbers.now }
 {
-    let mut k: u64 = 0;
-    let mut i = 0;
-    while i < PLACE_COUNT {
-        k += one_if(is_ahead(numbers, i));
-        i += 1;
-    }
-    k
+    (0..PLACE_COUNT).filter(|i| is_ahead(numbers, *i)).count() as u64
 }
 
-// Whether the counters and the numbers chosen ahead of them add up to at most the openings: each is taken from what the
-// ones before leave of these, so that no sum is too large.
+// What some numbers leave of a whole; none where their sum is above it. Each is taken from what the ones before leave,
+// so that no sum is too large.
+fn left_of(whole: u64, numbers: &[u64]) -> Option<u64>
+    ensures { SomeIff result (total (slice_index numbers.now) (length numbers.now) ≤ whole)
+        (whole - total (slice_index numbers.now) (length numbers.now)) }
+{
+    let mut left = whole;
+    for n in numbers {
+        left = left.checked_sub(*n)?;
+    }
+    Some(left)
+}
+
+// Whether the counters and the numbers chosen ahead of them add up to at most the openings.
 pub fn series_sum(numbers: &[u64]) -> bool
     requires { length numbers.now ≡ number_count }
     ensures { result ≡ series_sum numbers.now }
 {
-    let mut left = numbers[OPENINGS];
-    let mut i = 0;
-    while i < PLACE_COUNT {
-        let n = counter_at(numbers, i);
-        if left < n {
-            return false;
-        }
-        left -= n;
-        i += 1;
+    match left_of(numbers[OPENINGS], &numbers[SERIES..EVENTS]) {
+        Some(left) => chosen_ahead(numbers) <= left,
+        None => false,
     }
-    chosen_ahead(numbers) <= left
 }
 
 // ---- nonces
 
+#[tactic(auto, unfolding(crate::specs::Conditions::nonce_test))]
 fn nonce_test(numbers: &[u64], i: usize) -> bool
     requires { (i < nonce_count) × (length numbers.now ≡ number_count) }
     ensures { result ≡ nonce_test numbers.now i }
@@ -118,53 +132,28 @@ pub fn every_nonce(numbers: &[u64]) -> bool
     ensures { result ≡ every_nonce numbers.now }
 {
     let n = nonces(numbers);
-    let mut ok = true;
-    let mut i = 0;
-    while i < n {
-        ok = both(nonce_test(numbers, i), ok);
-        i += 1;
-    }
-    ok
+    (0..n).all(|i| nonce_test(numbers, i))
 }
 
 // Whether two records have different nonces.
+#[tactic(auto, unfolding(crate::specs::Conditions::same_nonce))]
 fn other_nonce(numbers: &[u64], i: usize, j: usize) -> bool
     requires { (i < nonce_count) × (j < nonce_count) × (length numbers.now ≡ number_count) }
     ensures { result ≡ not (same_nonce numbers.now i j) }
 {
     let a = nonce_at(numbers, i);
     let b = nonce_at(numbers, j);
-    !both(a.high == b.high, a.low == b.low)
-}
-
-// Whether a nonce differs from all before it.
-fn new_nonce(numbers: &[u64], i: usize) -> bool
-    requires { (i < nonce_count) × (length numbers.now ≡ number_count) }
-    ensures { result ≡ every (λ j. not (same_nonce numbers.now i j)) i }
-{
-    let mut ok = true;
-    let mut j = 0;
-    while j < i {
-        ok = both(other_nonce(numbers, i, j), ok);
-        j += 1;
-    }
-    ok
+    !(a.high == b.high && a.low == b.low)
 }
 
 pub fn nonces_distinct(numbers: &[u64]) -> bool
     requires { length numbers.now ≡ number_count }
     ensures { result ≡ nonces_distinct numbers.now }
 {
-    let n = nonces(numbers);
-    let mut ok = true;
-    let mut i = 0;
-    while i < n {
-        ok = both(new_nonce(numbers, i), ok);
-        i += 1;
-    }
-    ok
+    distinct(nonces(numbers), |i, j| other_nonce(numbers, i, j))
 }
 
+#[tactic(auto, unfolding(crate::specs::Conditions::nonces_unused))]
 pub fn nonces_unused(numbers: &[u64]) -> bool
     requires { length numbers.now ≡ number_count }
     ensures { result ≡ nonces_unused numbers.now }
@@ -174,28 +163,22 @@ pub fn nonces_unused(numbers: &[u64]) -> bool
 
 // ---- open downloads
 
+#[tactic(auto, unfolding(crate::specs::Conditions::download_rises))]
 fn download_rises(numbers: &[u64], i: usize) -> bool
     requires { (i < place_count) × (length numbers.now ≡ number_count) }
     ensures { result ≡ download_rises numbers.now i }
 {
-    if i == 0 {
-        return true;
-    }
-    let a = download_at(numbers, i - 1);
-    let b = download_at(numbers, i);
-    a.low < b.low
+    i == 0 || download_at(numbers, i - 1).low < download_at(numbers, i).low
 }
 
+#[tactic(auto, unfolding(crate::specs::Conditions::download_test))]
 fn download_test(numbers: &[u64], i: usize) -> bool
     requires { (i < place_count) × (length numbers.now ≡ number_count) }
     ensures { result ≡ download_test numbers.now i }
 {
     let d = download_at(numbers, i);
     let file = file_of(numbers, d.subscriber);
-    both(
-        download_holds(numbers[CLOCK], numbers[OPENINGS], file, d),
-        download_rises(numbers, i),
-    )
+    download_holds(numbers[CLOCK], numbers[OPENINGS], file, d) && download_rises(numbers, i)
 }
 
 pub fn every_download(numbers: &[u64]) -> bool
@@ -203,15 +186,10 @@ pub fn every_download(numbers: &[u64]) -> bool
     ensures { result ≡ every_download numbers.now }
 {
     let n = downloads(numbers);
-    let mut ok = true;
-    let mut i = 0;
-    while i < n {
-        ok = both(download_test(numbers, i), ok);
-        i += 1;
-    }
-    ok
+    (0..n).all(|i| download_test(numbers, i))
 }
 
+#[tactic(auto, unfolding(crate::specs::Conditions::downloads_unused))]
 pub fn downloads_unused(numbers: &[u64]) -> bool
     requires { length numbers.now ≡ number_count }
     ensures { result ≡ downloads_unused numbers.now }
@@ -237,76 +215,49 @@ fn zero_behind(store: &[u8], i: usize, n: u64) -> bool
     zero_bytes(&store[from..end])
 }
 
+#[tactic(auto, unfolding(crate::specs::Conditions::place_bytes))]
 fn place_bytes(numbers: &[u64], orders: &[u8], i: usize) -> bool
     requires { (i < place_count) × (length numbers.now ≡ number_count) × (length orders.now ≡ store_bytes) }
     ensures { result ≡ place_bytes numbers.now orders.now i }
 {
-    let p = place_at(numbers, i);
-    zero_behind(orders, i, p.length)
+    zero_behind(orders, i, place_at(numbers, i).length)
 }
 
+#[tactic(auto, unfolding(crate::specs::Conditions::place_test))]
 fn place_test(numbers: &[u64], orders: &[u8], i: usize) -> bool
     requires { (i < place_count) × (length numbers.now ≡ number_count) × (length orders.now ≡ store_bytes) }
     ensures { result ≡ place_test numbers.now orders.now i }
 {
     let p = place_at(numbers, i);
-    both(
-        place_holds(numbers[CLOCK], numbers[OPENINGS], p),
-        place_bytes(numbers, orders, i),
-    )
+    place_holds(numbers[CLOCK], numbers[OPENINGS], p) && place_bytes(numbers, orders, i)
 }
 
 pub fn every_place(numbers: &[u64], orders: &[u8]) -> bool
     requires { (length numbers.now ≡ number_count) × (length orders.now ≡ store_bytes) }
     ensures { result ≡ every_place numbers.now orders.now }
 {
-    let mut ok = true;
-    let mut i = 0;
-    while i < PLACE_COUNT {
-        ok = both(place_test(numbers, orders, i), ok);
-        i += 1;
-    }
-    ok
+    (0..PLACE_COUNT).all(|i| place_test(numbers, orders, i))
 }
 
 // Whether two places are not both in use with the same subscriber and order number.
+#[tactic(auto, unfolding(crate::specs::Conditions::same_order))]
 fn other_order(numbers: &[u64], i: usize, j: usize) -> bool
     requires { (i < place_count) × (j < place_count) × (length numbers.now ≡ number_count) }
     ensures { result ≡ not (same_order numbers.now i j) }
 {
     let a = place_at(numbers, i);
     let b = place_at(numbers, j);
-    let same = both(a.subscriber == b.subscriber, both(a.order == b.order, true));
-    !both(0 < a.state, both(0 < b.state, same))
-}
-
-// Whether a place's subscriber and order number differ from all before it.
-fn new_order(numbers: &[u64], i: usize) -> bool
-    requires { (i < place_count) × (length numbers.now ≡ number_count) }
-    ensures { result ≡ every (λ j. not (same_order numbers.now i j)) i }
-{
-    let mut ok = true;
-    let mut j = 0;
-    while j < i {
-        ok = both(other_order(numbers, i, j), ok);
-        j += 1;
-    }
-    ok
+    !(0 < a.state && 0 < b.state && a.subscriber == b.subscriber && a.order == b.order)
 }
 
 pub fn orders_distinct(numbers: &[u64]) -> bool
     requires { length numbers.now ≡ number_count }
     ensures { result ≡ orders_distinct numbers.now }
 {
-    let mut ok = true;
-    let mut i = 0;
-    while i < PLACE_COUNT {
-        ok = both(new_order(numbers, i), ok);
-        i += 1;
-    }
-    ok
+    distinct(PLACE_COUNT, |i, j| other_order(numbers, i, j))
 }
 
+#[tactic(auto, unfolding(crate::specs::Conditions::mailbox_bytes))]
 fn mailbox_bytes(numbers: &[u64], mailboxes: &[u8], i: usize) -> bool
     requires { (i < place_count) × (length numbers.now ≡ number_count) × (length mailboxes.now ≡ store_bytes) }
     ensures { result ≡ mailbox_bytes numbers.now mailboxes.now i }
@@ -314,74 +265,47 @@ fn mailbox_bytes(numbers: &[u64], mailboxes: &[u8], i: usize) -> bool
     zero_behind(mailboxes, i, file_at(numbers, i))
 }
 
+#[tactic(auto, unfolding(crate::specs::Conditions::mailbox_test))]
 fn mailbox_test(numbers: &[u64], mailboxes: &[u8], i: usize) -> bool
     requires { (i < place_count) × (length numbers.now ≡ number_count) × (length mailboxes.now ≡ store_bytes) }
     ensures { result ≡ mailbox_test numbers.now mailboxes.now i }
 {
-    both(
-        file_at(numbers, i) <= FILE_BYTES as u64,
-        mailbox_bytes(numbers, mailboxes, i),
-    )
+    file_at(numbers, i) <= FILE_BYTES as u64 && mailbox_bytes(numbers, mailboxes, i)
 }
 
 pub fn every_mailbox(numbers: &[u64], mailboxes: &[u8]) -> bool
     requires { (length numbers.now ≡ number_count) × (length mailboxes.now ≡ store_bytes) }
     ensures { result ≡ every_mailbox numbers.now mailboxes.now }
 {
-    let mut ok = true;
-    let mut i = 0;
-    while i < PLACE_COUNT {
-        ok = both(mailbox_test(numbers, mailboxes, i), ok);
-        i += 1;
-    }
-    ok
+    (0..PLACE_COUNT).all(|i| mailbox_test(numbers, mailboxes, i))
 }
 
 // ---- places and open downloads together
 
 // Whether two slots are not both in use with the same running number.
+#[tactic(auto, unfolding(crate::specs::Conditions::same_number))]
 fn other_number(numbers: &[u64], i: usize, j: usize) -> bool
     requires { (i < slot_count) × (j < slot_count) × (length numbers.now ≡ number_count) }
     ensures { result ≡ not (same_number numbers.now i j) }
 {
     let a = slot_at(numbers, i);
     let b = slot_at(numbers, j);
-    !both(0 < a.state, both(0 < b.state, both(a.low == b.low, true)))
-}
-
-// Whether a slot's running number differs from all before it.
-fn new_number(numbers: &[u64], i: usize) -> bool
-    requires { (i < slot_count) × (length numbers.now ≡ number_count) }
-    ensures { result ≡ every (λ j. not (same_number numbers.now i j)) i }
-{
-    let mut ok = true;
-    let mut j = 0;
-    while j < i {
-        ok = both(other_number(numbers, i, j), ok);
-        j += 1;
-    }
-    ok
+    !(0 < a.state && 0 < b.state && a.low == b.low)
 }
 
 pub fn numbers_distinct(numbers: &[u64]) -> bool
     requires { length numbers.now ≡ number_count }
     ensures { result ≡ numbers_distinct numbers.now }
 {
-    let mut ok = true;
-    let mut i = 0;
-    while i < SLOT_COUNT {
-        ok = both(new_number(numbers, i), ok);
-        i += 1;
-    }
-    ok
+    distinct(SLOT_COUNT, |i, j| other_number(numbers, i, j))
 }
 
+#[tactic(auto, unfolding(crate::specs::Conditions::is_open_slot))]
 fn is_open_slot(numbers: &[u64], i: usize) -> bool
     requires { (i < slot_count) × (length numbers.now ≡ number_count) }
     ensures { result ≡ is_open_slot numbers.now i }
 {
-    let a = slot_at(numbers, i);
-    a.state == 1
+    slot_at(numbers, i).state == 1
 }
 
 // How many of the first n slots are open.
@@ -389,15 +313,10 @@ fn open_slots(numbers: &[u64], n: usize) -> u64
     requires { (n ≤ slot_count) × (length numbers.now ≡ number_count) }
     ensures { (result ≡ count (is_open_slot numbers.now) n) × (result ≤ n) }
 {
-    let mut k: u64 = 0;
-    let mut i = 0;
-    while i < n {
-        k += one_if(is_open_slot(numbers, i));
-        i += 1;
-    }
-    k
+    (0..n).filter(|i| is_open_slot(numbers, *i)).count() as u64
 }
 
+#[tactic(auto, unfolding(crate::specs::Conditions::open_in_all))]
 pub fn open_in_all(numbers: &[u64]) -> bool
     requires { length numbers.now ≡ number_count }
     ensures { result ≡ open_in_all numbers.now }
@@ -405,12 +324,13 @@ pub fn open_in_all(numbers: &[u64]) -> bool
     open_slots(numbers, SLOT_COUNT) <= 8
 }
 
+#[tactic(auto, unfolding(crate::specs::Conditions::is_open_of))]
 fn is_open_of(numbers: &[u64], s: u64, i: usize) -> bool
     requires { (i < slot_count) × (length numbers.now ≡ number_count) }
     ensures { result ≡ is_open_of numbers.now s i }
 {
     let a = slot_at(numbers, i);
-    both(a.state == 1, a.subscriber == s)
+    a.state == 1 && a.subscriber == s
 }
 
 // How many slots are open transactions of a subscriber.
@@ -418,15 +338,12 @@ fn open_of(numbers: &[u64], s: u64) -> u64
     requires { length numbers.now ≡ number_count }
     ensures { result ≡ count (is_open_of numbers.now s) slot_count }
 {
-    let mut k: u64 = 0;
-    let mut i = 0;
-    while i < SLOT_COUNT {
-        k += one_if(is_open_of(numbers, s, i));
-        i += 1;
-    }
-    k
+    (0..SLOT_COUNT)
+        .filter(|i| is_open_of(numbers, s, *i))
+        .count() as u64
 }
 
+#[tactic(auto, unfolding(crate::specs::Conditions::open_of_one))]
 fn open_of_one(numbers: &[u64], i: usize) -> bool
     requires { (i < subscribers) × (length numbers.now ≡ number_count) }
     ensures { result ≡ open_of_one numbers.now i }
@@ -438,13 +355,7 @@ pub fn every_subscriber(numbers: &[u64]) -> bool
     requires { length numbers.now ≡ number_count }
     ensures { result ≡ every_subscriber numbers.now }
 {
-    let mut ok = true;
-    let mut i = 0;
-    while i < 8 {
-        ok = both(open_of_one(numbers, i), ok);
-        i += 1;
-    }
-    ok
+    (0..PLACE_COUNT).all(|i| open_of_one(numbers, i))
 }
 
 // How many signers a place has: its set is the low byte.
@@ -452,8 +363,7 @@ fn signers_at(numbers: &[u64], i: usize) -> u64
     requires { (i < place_count) × (length numbers.now ≡ number_count) }
     ensures { (result ≡ signers_at numbers.now i) × (result ≤ 8) }
 {
-    let p = place_at(numbers, i);
-    set::count((p.signers % 256) as u8) as u64
+    u64::from(set::count((place_at(numbers, i).signers % 256) as u8))
 }
 
 // How many signers the places have, all together.
@@ -461,15 +371,14 @@ fn signers_in_all(numbers: &[u64]) -> u64
     requires { length numbers.now ≡ number_count }
     ensures { result ≡ signers_in_all numbers.now }
 {
-    let mut sum: u64 = 0;
-    let mut i = 0;
-    while i < PLACE_COUNT {
+    let mut sum = 0;
+    for i in 0..PLACE_COUNT {
         sum += signers_at(numbers, i);
-        i += 1;
     }
     sum
 }
 
+#[tactic(auto, unfolding(crate::specs::Conditions::events_fit))]
 pub fn events_fit(numbers: &[u64]) -> bool
     requires { length numbers.now ≡ number_count }
     ensures { result ≡ events_fit numbers.now }
@@ -481,15 +390,13 @@ pub fn events_fit(numbers: &[u64]) -> bool
 
 // ---- the journal
 
+#[tactic(auto, unfolding(crate::specs::Conditions::event_test))]
 fn event_test(numbers: &[u64], i: usize) -> bool
     requires { (i < used_events numbers.now) × (length numbers.now ≡ number_count) }
     ensures { result ≡ event_test numbers.now i }
 {
     let e = event_at(numbers, i);
-    if i == 0 {
-        return event_holds(numbers[CLOCK], numbers[OPENINGS], numbers[EVENTS], 0, e, e);
-    }
-    let before = event_at(numbers, i - 1);
+    let before = event_at(numbers, i.saturating_sub(1));
     event_holds(
         numbers[CLOCK],
         numbers[OPENINGS],
@@ -505,15 +412,10 @@ pub fn every_event(numbers: &[u64]) -> bool
     ensures { result ≡ every_event numbers.now }
 {
     let n = used_events(numbers);
-    let mut ok = true;
-    let mut i = 0;
-    while i < n {
-        ok = both(event_test(numbers, i), ok);
-        i += 1;
-    }
-    ok
+    (0..n).all(|i| event_test(numbers, i))
 }
 
+#[tactic(auto, unfolding(crate::specs::Conditions::journal_unused))]
 pub fn journal_unused(numbers: &[u64]) -> bool
     requires { length numbers.now ≡ number_count }
     ensures { result ≡ journal_unused numbers.now }
@@ -529,6 +431,7 @@ pub fn journal_unused(numbers: &[u64]) -> bool
 
 // ---- the counts
 
+#[tactic(auto, unfolding(crate::specs::Conditions::counts_open))]
 pub fn counts_open(numbers: &[u64]) -> bool
     requires { length numbers.now ≡ number_count }
     ensures { result ≡ counts_open numbers.now }
@@ -536,12 +439,12 @@ pub fn counts_open(numbers: &[u64]) -> bool
     count_at(numbers, 0) == open_slots(numbers, SLOT_COUNT)
 }
 
+#[tactic(auto, unfolding(crate::specs::Conditions::is_booked_place))]
 fn is_booked_place(numbers: &[u64], i: usize) -> bool
     requires { (i < place_count) × (length numbers.now ≡ number_count) }
     ensures { result ≡ is_booked_place numbers.now i }
 {
-    let p = place_at(numbers, i);
-    p.state == 2
+    place_at(numbers, i).state == 2
 }
 
 // How many places are booked orders.
@@ -549,15 +452,12 @@ fn booked_places(numbers: &[u64]) -> u64
     requires { length numbers.now ≡ number_count }
     ensures { result ≡ count (is_booked_place numbers.now) place_count }
 {
-    let mut k: u64 = 0;
-    let mut i = 0;
-    while i < PLACE_COUNT {
-        k += one_if(is_booked_place(numbers, i));
-        i += 1;
-    }
-    k
+    (0..PLACE_COUNT)
+        .filter(|i| is_booked_place(numbers, *i))
+        .count() as u64
 }
 
+#[tactic(auto, unfolding(crate::specs::Conditions::counts_booked))]
 pub fn counts_booked(numbers: &[u64]) -> bool
     requires { length numbers.now ≡ number_count }
     ensures { result ≡ counts_booked numbers.now }
@@ -565,21 +465,13 @@ pub fn counts_booked(numbers: &[u64]) -> bool
     count_at(numbers, 1) == booked_places(numbers)
 }
 
-// Whether the counts add up to the openings: each is taken from what the ones before leave of these, so that no sum is
-// too large.
+// Whether the counts add up to the openings.
 pub fn counts_sum(numbers: &[u64]) -> bool
     requires { length numbers.now ≡ number_count }
     ensures { result ≡ counts_sum numbers.now }
 {
-    let mut left = numbers[OPENINGS];
-    let mut i = 0;
-    while i < COUNT_SIZE {
-        let n = count_at(numbers, i);
-        if left < n {
-            return false;
-        }
-        left -= n;
-        i += 1;
+    match left_of(numbers[OPENINGS], &numbers[COUNTS..NUMBER_COUNT]) {
+        Some(left) => left == 0,
+        None => false,
     }
-    left == 0
 }

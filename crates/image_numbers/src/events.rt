@@ -41,7 +41,6 @@ pub fn put_event(e: Event, numbers: &mut [u64], at: usize)
     requires { at + event_width ≤ length numbers.old }
     ensures { numbers.new ≡ overwrite numbers.old at (event_numbers e) }
 {
-    let kind = e.kind;
     let parts = [
         e.number,
         e.clock,
@@ -50,7 +49,7 @@ pub fn put_event(e: Event, numbers: &mut [u64], at: usize)
         e.order,
         e.high,
         e.low,
-        number_of_kind(kind),
+        number_of_kind(e.kind),
     ];
     put(numbers, at, &parts);
 }
@@ -61,10 +60,8 @@ pub fn put_events(row: [Event; RECORD_COUNT], numbers: &mut [u64])
     ensures { numbers.new
         ≡ overwrite numbers.old journal_at (numbers_of event_numbers row) }
 {
-    let mut i = 0;
-    while i < RECORD_COUNT {
+    for i in 0..RECORD_COUNT {
         put_event(row[i], numbers, JOURNAL + i * EVENT_WIDTH);
-        i += 1;
     }
 }
 
@@ -74,7 +71,6 @@ fn event_from(numbers: &[u64], i: usize) -> Event
     ensures { result ≡ event_of (drop (event_width * i) (drop journal_at numbers.now)) }
 {
     let e = event_at(numbers, i);
-    let kind = kind_of(e.kind);
     Event {
         number: e.number,
         clock: e.clock,
@@ -83,7 +79,7 @@ fn event_from(numbers: &[u64], i: usize) -> Event
         order: e.order,
         high: e.high,
         low: e.low,
-        kind,
+        kind: kind_of(e.kind),
     }
 }
 
@@ -103,10 +99,8 @@ pub fn row_from(numbers: &[u64]) -> [Event; RECORD_COUNT]
         kind: Kind::Unused,
     };
     let mut row = [none; RECORD_COUNT];
-    let mut i = 0;
-    while i < RECORD_COUNT {
+    for i in 0..RECORD_COUNT {
         row[i] = event_from(numbers, i);
-        i += 1;
     }
     row
 }

@@ -14,13 +14,9 @@ fn move_record(g: Group, i: usize, from: &[u64], to: &mut [u64], at: usize)
         ≡ overwrite to.old at (numbers_at (record_places g i) from.now) }
 {
     let mut parts = g.parts;
-    let mut n = g.size;
-    let mut k = at;
-    while n != 0 {
+    for k in at..at + g.size {
         to[k] = from[g.at + g.width * i + (parts % 16) as usize];
-        parts = parts / 16;
-        k += 1;
-        n -= 1;
+        parts /= 16;
     }
 }
 
@@ -32,11 +28,9 @@ fn move_group(g: Group, from: &[u64], to: &mut [u64], at: usize)
         ≡ overwrite to.old at (numbers_at (group_places g) from.now) }
 {
     let mut k = at;
-    let mut i = 0;
-    while i < g.records {
+    for i in 0..g.records {
         move_record(g, i, from, to, k);
         k += g.size;
-        i += 1;
     }
 }
 
@@ -48,11 +42,9 @@ pub fn move_groups(first: usize, end: usize, from: &[u64], to: &mut [u64])
         ≡ overwrite to.old 0 (numbers_at (groups_from (end - first) first) from.now) }
 {
     let mut k = 0;
-    let mut i = first;
-    while i < end {
+    for i in first..end {
         let g = group_at(i);
         move_group(g, from, to, k);
         k += g.records * g.size;
-        i += 1;
     }
 }

@@ -5,7 +5,8 @@ ghost use Rattle.image_numbers.specs.Table.{group_at};
 use bank_state::limits::{NONCE_COUNT, PLACE_COUNT};
 
 // Some records: where the first one's numbers begin, and how far one record is from the next; how many of a record's
-// numbers are taken and which, as hexadecimal digits, the first number's last; how many records.
+// numbers are taken and which, as hexadecimal digits, the first number's last (and no slice: `group_at` tells the group
+// as a value, which one with a reference in it is not); how many records.
 #[derive(Clone, Copy)]
 pub struct Group {
     pub at: usize,
@@ -170,13 +171,14 @@ pub fn group_at(i: usize) -> Group
     ensures { result ≡ group_at i }
 {
     if i < ALL_GROUPS {
-        return GROUPS[i];
-    }
-    Group {
-        at: 0,
-        width: 0,
-        size: 0,
-        parts: 0,
-        records: 0,
+        GROUPS[i]
+    } else {
+        Group {
+            at: 0,
+            width: 0,
+            size: 0,
+            parts: 0,
+            records: 0,
+        }
     }
 }

@@ -149,7 +149,7 @@ module _ (xs : List ℕ) (at w used all : ℕ) (some : 0 < w) where
 -- ---- how many
 
 module _ (p : ℕ → Bool) where
-  count-first : (n : ℕ) → count p (suc n) ≡ cond (p 0) 1 0 + count (λ i. p (suc i)) n
+  pub count-first : (n : ℕ) → count p (suc n) ≡ cond (p 0) 1 0 + count (λ i. p (suc i)) n
   unfolding count
   count-first zero = refl
   count-first (suc n) = let e = count-first n in omega arith

@@ -1,38 +1,21 @@
 -- Laws of the tests' shapes: every number below one, how many, a sum, no two the same, zeros. Assumes nothing.
 use Prim.Native.Nat.{ℕ, zero, suc, ◌+◌, ◌*◌, ◌≤◌, ◌<◌}
-use mathlib.Core.List.{List, [], ◌∷◌, ◌++◌}
+use mathlib.Core.List.{List, [], ◌∷◌}
 use mathlib.Core.Bool.{Bool, true, false, cond, ◌&&◌}
 use mathlib.Core.Path.{◌≡◌, refl, sym, ap, ◌∙◌}
 use native.Mathlib.Nat.{add-zero, add-suc, suc-mul}
 use native.Mathlib.Numerals.{add-one}
 use native.Mathlib.Omega.{arith}
-use lib.ListN.{length, get_or, take}
-use lib.Seq.{take-suc}
+use Rattle.std.specs.List.{fold}
+use Rattle.std.specs.Prelude.{max}
 use lib.Dec.{leb, eqb}
 use borrow.Author.Tests.{eqb-true, eqb-false, leb-true, leb-false, eq-eqb, ne_eqb}
 use Rattle.octets.proofs.Tests.{and-true, and-true-right}
 use Rattle.image_records.specs.Shapes.{up_to, every, count, total, all_zero}
 
--- ---- every number below one, and how many
+-- ---- every number below one
 
 module _ (p : ℕ → Bool) where
-  pub every-none : every p 0 ≡ true
-  unfolding every
-  every-none = refl
-
-  -- one turn of a loop that tests each in turn
-  pub every-next : (n : ℕ) (a b : Bool) → a ≡ p n → b ≡ every p n → (a && b) ≡ every p (n + 1)
-  unfolding every
-  every-next n a b e f = rw (add-one n, e, f)
-
-  pub count_none : count p 0 ≡ 0
-  unfolding count
-  count_none = refl
-
-  pub count_next : (n : ℕ) → count p (n + 1) ≡ cond (p n) 1 0 + count p n
-  unfolding count
-  count_next n = rw (add-one n)
-
   at_last : (n j : ℕ) (t : Bool) → eqb j n ≡ t → p n ≡ true → j < suc n → (j < n → p j ≡ true) → p j ≡ true
   at_last n j true e h k f = ap p (eqb-true j n e) ∙ h
   at_last n j false e h k f = f (let q = eqb-false j n e in omega arith)
@@ -127,15 +110,6 @@ and_assoc : (a b c : Bool) → (a && (b && c)) ≡ ((a && b) && c)
 and_assoc true b c = refl
 and_assoc false b c = refl
 
-all_zero-snoc : (l : List ℕ) (b : ℕ) → all_zero (l ++ (b ∷ [])) ≡ (all_zero l && eqb b 0)
-unfolding all_zero
-all_zero-snoc [] b = sym (and-true-right (eqb b 0))
-all_zero-snoc (x ∷ l) b = rw (all_zero-snoc l b) (and_assoc (eqb x 0) (all_zero l) (eqb b 0))
-
-pub all_zero-nil : all_zero [] ≡ true
-unfolding all_zero
-all_zero-nil = refl
-
 module _ (a b r : ℕ) (ha : a ≤ r) (hb : b ≤ r) (hr : a ≡ 0 → b ≡ 0 → r ≡ 0) where
   zero-at : (s t : Bool) → eqb a 0 ≡ s → eqb b 0 ≡ t → eqb r 0 ≡ (s && t)
   zero-at true true e f = eq-eqb r 0 (hr (eqb-true a 0 e) (eqb-true b 0 f))
@@ -143,12 +117,14 @@ module _ (a b r : ℕ) (ha : a ≤ r) (hb : b ≤ r) (hr : a ≡ 0 → b ≡ 0 �
   zero-at false t e f = ne_eqb r 0 (λ k. eqb-false a 0 e (omega arith))
 
   -- the greater of two is 0 exactly if both are
-  pub zero-both : eqb r 0 ≡ (eqb a 0 && eqb b 0)
+  zero-both : eqb r 0 ≡ (eqb a 0 && eqb b 0)
   zero-both = zero-at (eqb a 0) (eqb b 0) refl refl
 
--- one turn of the loop over zeros
-pub zeros-next : (s : List ℕ) (i a r : ℕ) → i < length s → eqb a 0 ≡ all_zero (take i s)
-    → eqb r 0 ≡ (eqb a 0 && eqb (get_or s i 0) 0) → eqb r 0 ≡ all_zero (take (i + 1) s)
-zeros-next s i a r h e f =
-    f ∙ ap (λ (t : Bool). t && eqb (get_or s i 0) 0) e
-    ∙ sym (rw (add-one i, take-suc s i 0 h) (all_zero-snoc (take i s) (get_or s i 0)))
+-- the greatest of some numbers is 0 exactly if all are
+pub greatest-zero : (a : ℕ) (xs : List ℕ) → eqb (fold max a xs) 0 ≡ (eqb a 0 && all_zero xs)
+unfolding all_zero
+greatest-zero a [] = and-true-right (eqb a 0)
+greatest-zero a (x ∷ xs) =
+    greatest-zero (max a x) xs
+    ∙ ap (λ (t : Bool). t && all_zero xs) (zero-both a x (max a x) (omega arith) (omega arith) (λ e f. omega arith))
+    ∙ sym (and_assoc (eqb a 0) (eqb x 0) (all_zero xs))

@@ -70,7 +70,7 @@ pub struct DownloadRecord {
 
 // A place: free (0), an open upload (1) or a booked order (2); low is the running number of its opening, order its order
 // number as a number, signers is a set as bits.
-#[derive(Clone, Copy)]
+#[derive(Clone, Copy, PartialEq, Eq, Default)]
 pub struct PlaceRecord {
     pub state: u64,
     pub subscriber: u64,
@@ -128,6 +128,7 @@ pub fn used_events(numbers: &[u64]) -> usize
     up_to(64, numbers[EVENTS]) as usize
 }
 
+#[tactic(auto, unfolding(crate::specs::Layout::nonce_at))]
 pub fn nonce_at(numbers: &[u64], i: usize) -> NonceRecord
     requires { (i < nonce_count) × (length numbers.now ≡ number_count) }
     ensures { result ≡ nonce_at numbers.now i }
@@ -140,6 +141,7 @@ pub fn nonce_at(numbers: &[u64], i: usize) -> NonceRecord
     }
 }
 
+#[tactic(auto, unfolding(crate::specs::Layout::download_at))]
 pub fn download_at(numbers: &[u64], i: usize) -> DownloadRecord
     requires { (i < place_count) × (length numbers.now ≡ number_count) }
     ensures { result ≡ download_at numbers.now i }
@@ -155,6 +157,7 @@ pub fn download_at(numbers: &[u64], i: usize) -> DownloadRecord
     }
 }
 
+#[tactic(auto, unfolding(crate::specs::Layout::place_at))]
 pub fn place_at(numbers: &[u64], i: usize) -> PlaceRecord
     requires { (i < place_count) × (length numbers.now ≡ number_count) }
     ensures { result ≡ place_at numbers.now i }
@@ -175,6 +178,7 @@ pub fn place_at(numbers: &[u64], i: usize) -> PlaceRecord
     }
 }
 
+#[tactic(auto, unfolding(crate::specs::Layout::event_at))]
 pub fn event_at(numbers: &[u64], i: usize) -> EventRecord
     requires { (i < record_count) × (length numbers.now ≡ number_count) }
     ensures { result ≡ event_at numbers.now i }
@@ -193,6 +197,7 @@ pub fn event_at(numbers: &[u64], i: usize) -> EventRecord
 }
 
 // The counter of series i, from 0 on.
+#[tactic(auto, unfolding(crate::specs::Layout::counter_at))]
 pub fn counter_at(numbers: &[u64], i: usize) -> u64
     requires { (i < place_count) × (length numbers.now ≡ number_count) }
     ensures { result ≡ counter_at numbers.now i }
@@ -201,20 +206,20 @@ pub fn counter_at(numbers: &[u64], i: usize) -> u64
 }
 
 // The counter of a subscriber's series; 0 where there is no such subscriber.
+#[tactic(auto, unfolding(crate::specs::Layout::counter_of))]
 pub fn counter_of(numbers: &[u64], subscriber: u64) -> u64
     requires { length numbers.now ≡ number_count }
     ensures { result ≡ counter_of numbers.now subscriber }
 {
-    if subscriber < 1 {
-        return 0;
+    if (1..=SUBSCRIBERS).contains(&subscriber) {
+        counter_at(numbers, (subscriber - 1) as usize)
+    } else {
+        0
     }
-    if SUBSCRIBERS < subscriber {
-        return 0;
-    }
-    counter_at(numbers, (subscriber - 1) as usize)
 }
 
 // The length of the file in mailbox i, from 0 on.
+#[tactic(auto, unfolding(crate::specs::Layout::file_at))]
 pub fn file_at(numbers: &[u64], i: usize) -> u64
     requires { (i < place_count) × (length numbers.now ≡ number_count) }
     ensures { result ≡ file_at numbers.now i }
@@ -223,20 +228,20 @@ pub fn file_at(numbers: &[u64], i: usize) -> u64
 }
 
 // The file length of a subscriber's mailbox; 0 where there is no such subscriber.
+#[tactic(auto, unfolding(crate::specs::Layout::file_of))]
 pub fn file_of(numbers: &[u64], subscriber: u64) -> u64
     requires { length numbers.now ≡ number_count }
     ensures { result ≡ file_of numbers.now subscriber }
 {
-    if subscriber < 1 {
-        return 0;
+    if (1..=SUBSCRIBERS).contains(&subscriber) {
+        file_at(numbers, (subscriber - 1) as usize)
+    } else {
+        0
     }
-    if SUBSCRIBERS < subscriber {
-        return 0;
-    }
-    file_at(numbers, (subscriber - 1) as usize)
 }
 
 // Count i, from 0 on.
+#[tactic(auto, unfolding(crate::specs::Layout::count_at))]
 pub fn count_at(numbers: &[u64], i: usize) -> u64
     requires { (i < count_size) × (length numbers.now ≡ number_count) }
     ensures { result ≡ count_at numbers.now i }
@@ -245,6 +250,7 @@ pub fn count_at(numbers: &[u64], i: usize) -> u64
 }
 
 // Place i, or open download i - 8.
+#[tactic(auto, unfolding(crate::specs::Layout::slot_at))]
 pub fn slot_at(numbers: &[u64], i: usize) -> Slot
     requires { (i < slot_count) × (length numbers.now ≡ number_count) }
     ensures { result ≡ slot_at numbers.now i }
@@ -258,15 +264,8 @@ pub fn slot_at(numbers: &[u64], i: usize) -> Slot
         };
     }
     let d = download_at(numbers, i - PLACE_COUNT);
-    if i - PLACE_COUNT < downloads(numbers) {
-        return Slot {
-            state: 1,
-            subscriber: d.subscriber,
-            low: d.low,
-        };
-    }
     Slot {
-        state: 0,
+        state: u64::from(i - PLACE_COUNT < downloads(numbers)),
         subscriber: d.subscriber,
         low: d.low,
     }

@@ -11,7 +11,7 @@ ghost use Rattle.image_records.specs.Records.{event_number, event_clock, event_s
 ghost use Rattle.image_records.specs.Records.{event_running, event_kind, event_holds};
 
 use crate::layout::{DownloadRecord, EventRecord, NonceRecord, PlaceRecord};
-use crate::tests::{at_most_segments, at_most_sum, both, implies, up_to, within};
+use crate::tests::{at_most_segments, at_most_sum, implies, up_to, within};
 use bank_state::limits::{IDLE_LIMIT, SERIES_LIMIT, WINDOW};
 use frame_table::table::LAST_TIME;
 use message::limits::{FILE_BYTES, FUL, MAX_ATTEMPTS, MAX_SEGMENTS, SUBSCRIBERS};
@@ -28,17 +28,14 @@ const LAST_KIND: u64 = 5;
 fn fit_time(clock: u64, last: u64) -> bool
     ensures { result ≡ fit_time clock last }
 {
-    both(last <= clock, at_most_sum(clock, last, IDLE_LIMIT))
+    last <= clock && at_most_sum(clock, last, IDLE_LIMIT)
 }
 
 pub fn nonce_time(clock: u64, n: NonceRecord) -> bool
     ensures { result ≡ nonce_time clock n }
 {
     let t = n.timestamp;
-    both(
-        at_most_sum(clock, t, WINDOW),
-        both(at_most_sum(t, clock, WINDOW), both(t <= LAST_TIME, true)),
-    )
+    at_most_sum(clock, t, WINDOW) && at_most_sum(t, clock, WINDOW) && t <= LAST_TIME
 }
 
 fn download_subscriber(d: DownloadRecord) -> bool
@@ -75,10 +72,11 @@ fn download_number(openings: u64, d: DownloadRecord) -> bool
 pub fn download_holds(clock: u64, openings: u64, file: u64, d: DownloadRecord) -> bool
     ensures { result ≡ download_holds clock openings file d }
 {
-    let n = both(download_number(openings, d), true);
-    let t = both(download_time(clock, d), n);
-    let a = both(download_attempts(d), t);
-    both(download_subscriber(d), both(download_delivered(file, d), a))
+    download_subscriber(d)
+        && download_delivered(file, d)
+        && download_attempts(d)
+        && download_time(clock, d)
+        && download_number(openings, d)
 }
 
 fn place_state(p: PlaceRecord) -> bool
@@ -90,14 +88,7 @@ fn place_state(p: PlaceRecord) -> bool
 fn place_free(p: PlaceRecord) -> bool
     ensures { result ≡ place_free p }
 {
-    let bytes = both(p.length == 0, both(p.signers == 0, true));
-    let counts = both(p.attempts == 0, both(p.last == 0, bytes));
-    let steps = both(p.segments == 0, both(p.taken == 0, counts));
-    let numbers = both(p.low == 0, both(p.order == 0, steps));
-    implies(
-        p.state == 0,
-        both(p.subscriber == 0, both(p.high == 0, numbers)),
-    )
+    implies(p.state == 0, p == PlaceRecord::default())
 }
 
 fn place_subscriber(p: PlaceRecord) -> bool
@@ -147,7 +138,7 @@ fn upload_length(p: PlaceRecord) -> bool
 {
     implies(
         p.state == OPEN,
-        both(p.taken <= p.length, at_most_segments(p.length, p.taken)),
+        p.taken <= p.length && at_most_segments(p.length, p.taken),
     )
 }
 
@@ -166,26 +157,28 @@ fn booked_length(p: PlaceRecord) -> bool
 fn booked_rest(p: PlaceRecord) -> bool
     ensures { result ≡ booked_rest p }
 {
-    let counts = both(p.attempts == 0, both(p.last == 0, true));
     implies(
         p.state == BOOKED,
-        both(p.segments == 0, both(p.taken == 0, counts)),
+        p.segments == 0 && p.taken == 0 && p.attempts == 0 && p.last == 0,
     )
 }
 
 pub fn place_holds(clock: u64, openings: u64, p: PlaceRecord) -> bool
     ensures { result ≡ place_holds clock openings p }
 {
-    let booked = both(booked_length(p), both(booked_rest(p), true));
-    let signers = both(upload_signers(p), booked);
-    let times = both(upload_time(clock, p), both(upload_length(p), signers));
-    let upload = both(
-        upload_segments(p),
-        both(upload_taken(p), both(upload_attempts(p), times)),
-    );
-    let numbers = both(place_number(openings, p), both(place_order(p), upload));
-    let used = both(place_subscriber(p), numbers);
-    both(place_state(p), both(place_free(p), used))
+    place_state(p)
+        && place_free(p)
+        && place_subscriber(p)
+        && place_number(openings, p)
+        && place_order(p)
+        && upload_segments(p)
+        && upload_taken(p)
+        && upload_attempts(p)
+        && upload_time(clock, p)
+        && upload_length(p)
+        && upload_signers(p)
+        && booked_length(p)
+        && booked_rest(p)
 }
 
 fn event_number(events: u64, i: u64, e: EventRecord) -> bool
@@ -199,7 +192,7 @@ fn event_number(events: u64, i: u64, e: EventRecord) -> bool
 fn event_clock(clock: u64, before: EventRecord, e: EventRecord) -> bool
     ensures { result ≡ event_clock clock before e }
 {
-    both(e.clock <= clock, before.clock <= e.clock)
+    e.clock <= clock && before.clock <= e.clock
 }
 
 fn event_subscriber(e: EventRecord) -> bool
@@ -244,11 +237,11 @@ pub fn event_holds(
     requires { i < up_to record_count events }
     ensures { result ≡ event_holds clock openings events i before e }
 {
-    let kind = both(event_running(openings, e), both(event_kind(e), true));
-    let order = both(event_type(e), both(event_order(e), kind));
-    let who = both(
-        event_clock(clock, before, e),
-        both(event_subscriber(e), order),
-    );
-    both(event_number(events, i, e), who)
+    event_number(events, i, e)
+        && event_clock(clock, before, e)
+        && event_subscriber(e)
+        && event_type(e)
+        && event_order(e)
+        && event_running(openings, e)
+        && event_kind(e)
 }

@@ -1,43 +1,34 @@
 // The shapes of tests: truth values joined, sums that need not fit, and zeros.
-ghost use Rattle.std.specs.Prelude.{◌≡◌, cond, ◌&&◌, ◌+◌, ◌*◌, ◌≤◌, leb};
+ghost use Rattle.std.specs.Prelude.{◌≡◌, ◌+◌, ◌*◌, ◌≤◌, leb};
 ghost use Rattle.message.specs.Limits.{segment_bytes};
 ghost use Rattle.image_records.specs.Shapes.{implies, within, up_to, all_zero};
 
 use message::segments::segments_of;
 
-pub fn both(a: bool, b: bool) -> bool
-    ensures { result ≡ (a && b) }
-{
-    if a { b } else { false }
-}
-
 pub fn implies(a: bool, b: bool) -> bool
     ensures { result ≡ implies a b }
 {
-    if a { b } else { true }
+    !a || b
 }
 
 pub fn within(least: u64, greatest: u64, n: u64) -> bool
     ensures { result ≡ within least greatest n }
 {
-    both(least <= n, n <= greatest)
+    (least..=greatest).contains(&n)
 }
 
 // n, or the most where n is above it.
 pub fn up_to(most: u64, n: u64) -> u64
     ensures { result ≡ up_to most n }
 {
-    if n <= most { n } else { most }
+    n.min(most)
 }
 
 // Whether a is at most b + k, a sum that need not fit.
 pub fn at_most_sum(a: u64, b: u64, k: u64) -> bool
     ensures { result ≡ leb a (b + k) }
 {
-    if a <= k {
-        return true;
-    }
-    a - k <= b
+    a.saturating_sub(k) <= b
 }
 
 // Whether n bytes are at most k whole segments, a product that need not fit.
@@ -63,52 +54,19 @@ pub fn at_most_twice_and(a: u64, k: u64, b: u64, s: u64) -> bool
     if s <= a {
         return at_most_twice(a - s, k, b);
     }
-    if k <= s - a {
-        return true;
-    }
-    at_most_twice(0, k - (s - a), b)
-}
-
-pub fn one_if(t: bool) -> u64
-    ensures { (result ≡ cond t 1 0) × (result ≤ 1) }
-{
-    if t { 1 } else { 0 }
-}
-
-fn greater_byte(a: u8, b: u8) -> u8
-    ensures { (a ≤ result) × (b ≤ result) × ((a ≡ 0) → (b ≡ 0) → result ≡ 0) }
-{
-    if a < b { b } else { a }
-}
-
-fn greater(a: u64, b: u64) -> u64
-    ensures { (a ≤ result) × (b ≤ result) × ((a ≡ 0) → (b ≡ 0) → result ≡ 0) }
-{
-    if a < b { b } else { a }
+    at_most_twice(0, k.saturating_sub(s - a), b)
 }
 
 // The greatest byte is 0. No way out of the loop, so that the compiler can take many bytes at once.
 pub fn zero_bytes(s: &[u8]) -> bool
     ensures { result ≡ all_zero s.now }
 {
-    let mut most: u8 = 0;
-    let mut i = 0;
-    while i < s.len() {
-        most = greater_byte(most, s[i]);
-        i += 1;
-    }
-    most == 0
+    s.iter().fold(0, |most: u8, x| most.max(*x)) == 0
 }
 
 // The greatest number is 0.
 pub fn zero_numbers(s: &[u64]) -> bool
     ensures { result ≡ all_zero s.now }
 {
-    let mut most: u64 = 0;
-    let mut i = 0;
-    while i < s.len() {
-        most = greater(most, s[i]);
-        i += 1;
-    }
-    most == 0
+    s.iter().fold(0, |most: u64, x| most.max(*x)) == 0
 }

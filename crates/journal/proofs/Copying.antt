@@ -1,35 +1,25 @@
--- Why `held_row` and `replace_row` are right: each place that they go through is given what is to stand there, and where
--- they go through none nothing changes. Assumes nothing.
-use Prim.Native.Nat.{ℕ, ◌+◌, ◌<◌}
-use mathlib.Core.Path.{◌≡◌, refl, sym, ap, ◌∙◌}
+-- What `held_row` and `replace_row` give: each of the records copied stands where it is to stand, and where none are
+-- copied nothing changes. Assumes nothing.
+use Prim.Native.Nat.{ℕ, ◌<◌}
+use mathlib.Core.Path.{◌≡◌, refl, sym, ◌∙◌}
 use mathlib.Core.Bool.{Bool, true, false, cond, ◌&&◌}
 use mathlib.Core.List.{List}
-use native.Mathlib.Numerals.{add-one}
 use native.Mathlib.Omega.{arith}
 use lib.Dec.{eqb}
-use lib.ListN.{length, get_or, set, length-replicate}
+use lib.ListN.{length, get_or, length-replicate}
 use borrow.Author.Tests.{eq-eqb, eqb-true}
 use Rattle.octets.proofs.Tests.{and-true}
 use Rattle.journal.specs.declared.event.Event.{Event}
 use Rattle.journal.specs.Events.{record_count, no_event}
 use Rattle.journal.specs.Row.{empty_row, copied_count, held_row, replaced}
-use Rattle.journal.proofs.Mixed.{mixed, mixed-none, mixed-next, mixed-back}
+use Rattle.journal.proofs.Mixed.{mixed, mixed-none, mixed-back}
 
--- what a loop goes by that gives xs the first records of src: zs is what is to stand there
+-- zs is xs with the first records of src in it
 pub record Copying (end : ℕ) (src xs zs : List Event) : Type 0 where
   pub same : length zs ≡ length xs
   pub within : (i : ℕ) → i < end → (length src ≡ record_count) × (length xs ≡ record_count) × (i < record_count)
   pub given : (i : ℕ) → i < end → get_or src i no_event ≡ get_or zs i no_event
   pub ends : mixed end zs xs ≡ zs
-
--- one place more
-pub copying-next : {end : ℕ} {src xs zs : List Event} → Copying end src xs zs → (i : ℕ) (row : List Event) → i < end → row ≡ mixed i zs xs
-    → set row i (get_or src i no_event) ≡ mixed (i + 1) zs xs
-copying-next {end} {src} {xs} {zs} right i row l e =
-    ap (λ (r : List Event). set r i (get_or src i no_event)) e
-    ∙ ap (set (mixed i zs xs) i) (right.given i l)
-    ∙ mixed-next i zs xs no_event right.same
-    ∙ ap (λ (k : ℕ). mixed k zs xs) (sym (add-one i))
 
 all-or-none : (t : Bool) (src xs : List Event) → (t ≡ true → length src ≡ record_count) → (t ≡ true → length xs ≡ record_count) → Copying (cond t record_count 0) src xs (cond t src xs)
 all-or-none true src xs e f = record {

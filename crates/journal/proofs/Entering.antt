@@ -1,13 +1,14 @@
 -- Why `enter` is right: each place that it goes through is given what the row is to hold there, and the others hold it
 -- already. Assumes nothing.
-use Prim.Native.Nat.{ℕ, ◌+◌, ◌-◌, ◌<◌, ◌≤◌, ◌^◌}
+use Prim.Native.Nat.{ℕ, zero, suc, ◌+◌, ◌-◌, ◌<◌, ◌≤◌, ◌^◌}
 use mathlib.Core.Path.{◌≡◌, refl, sym, ◌∙◌, ap, subst}
 use mathlib.Core.Bool.{Bool, true, false, cond}
 use mathlib.Core.List.{List}
 use native.Mathlib.Omega.{arith}
 use lib.Dec.{eqb, ltb, leb}
-use lib.ListN.{length, get_or}
-use borrow.Author.Tests.{eqb-true, ltb-true, leb-true, leb-false, le-leb, lt-leb}
+use lib.ListN.{length, get_or, set, drop, length-drop}
+use lib.Seq.{paste, paste-zero, paste-suc, get_or-drop}
+use borrow.Author.Tests.{eqb-true, ltb-true, ltb-false, leb-true, leb-false, le-leb, lt-leb}
 use Rattle.octets.proofs.Tests.{and-true}
 use Rattle.journal.specs.declared.event.Event.{Event}
 use Rattle.journal.specs.declared.event.Batch.{Batch}
@@ -17,7 +18,8 @@ use Rattle.journal.specs.Row.{takes_events, entered_all, row_after}
 use Rattle.journal.specs.Places.{used_after, entered_count, places_for, places_of}
 use Rattle.journal.proofs.Bounds.{used-most, count_most}
 use Rattle.journal.proofs.Events.{batch-length, batch-at}
-use Rattle.journal.proofs.Mixed.{mixed, mixed-none, mixed-front, mixed-back}
+use Rattle.std.specs.List.{copy_within}
+use Rattle.journal.proofs.Mixed.{mixed, mixed-none, mixed-next, mixed-front, mixed-back}
 use Rattle.journal.proofs.Rows.{entered-all-length, kept_at, new-at, behind-at}
 
 -- what the loops of `enter` go by: xs is the row, and zs what it is to hold
@@ -128,3 +130,45 @@ entering n clock b xs nine = at (takes_events (length xs) n) refl
     at true e =
         let both = and-true (eqb (length xs) record_count) (ltb (n + max_entries) (2 ^ 64)) e in
         some n clock b xs (eqb-true (length xs) record_count both.0) (ltb-true (n + max_entries) (2 ^ 64) both.1) nine
+
+-- ---- the records that move up
+
+module _ (xs zs : List Event) (same : length zs ≡ length xs) (from by : ℕ) (begins : mixed from zs xs ≡ xs) where
+  moved-mixed : (k : ℕ) → from + by + k ≤ length xs
+      → ((i : ℕ) → from ≤ i → i < from + k → get_or xs (i + by) no_event ≡ get_or zs i no_event)
+      → paste xs from (drop (from + by) xs) k ≡ mixed (from + k) zs xs
+  moved-mixed zero h g =
+      let e : from ≡ from + 0 = omega arith in
+      sym (paste-zero xs from (drop (from + by) xs)) ∙ sym begins ∙ ap (λ (i : ℕ). mixed i zs xs) e
+  moved-mixed (suc k) h g =
+      let s : List Event = drop (from + by) xs in
+      let n : length s ≡ length xs - (from + by) = length-drop (from + by) xs in
+      let e : from + by + k ≡ from + k + by = omega arith in
+      let f : suc (from + k) ≡ from + suc k = omega arith in
+      sym (paste-suc xs from s k no_event (omega arith) (omega arith))
+      ∙ ap (λ (r : List Event). set r (from + k) (get_or s k no_event)) (moved-mixed k (omega arith) (λ i l m. g i l (omega arith)))
+      ∙ ap (set (mixed (from + k) zs xs) (from + k))
+      (get_or-drop (from + by) xs k no_event ∙ ap (λ (j : ℕ). get_or xs j no_event) e ∙ g (from + k) (omega arith) (omega arith))
+      ∙ mixed-next (from + k) zs xs no_event same
+      ∙ ap (λ (i : ℕ). mixed i zs xs) f
+
+module _ {n clock : ℕ} {b : Batch} {p : Places} {xs zs : List Event} (right : Entering n clock b p xs zs) where
+  -- they stand within the row
+  pub moves-within : p.first < p.start → p.start + p.by ≤ length xs
+  moves-within h = let m = right.moves (p.start - 1) (omega arith) (omega arith) in omega (arith, m.0, m.1)
+
+  pub moved-up : cond (ltb p.first p.start) (copy_within xs (p.first + p.by) (p.start + p.by) p.first) xs ≡ mixed p.start zs xs
+  moved-up = at (ltb p.first p.start) refl
+    where
+      at : (t : Bool) → ltb p.first p.start ≡ t
+          → cond t (copy_within xs (p.first + p.by) (p.start + p.by) p.first) xs ≡ mixed p.start zs xs
+      at true e =
+          let h : p.first < p.start = ltb-true p.first p.start e in
+          let k : (p.start + p.by) - (p.first + p.by) ≡ p.start - p.first = omega arith in
+          let s : p.first + (p.start - p.first) ≡ p.start = omega arith in
+          ap (paste xs p.first (drop (p.first + p.by) xs)) k
+          ∙ moved-mixed xs zs right.same p.first p.by right.begins (p.start - p.first) (omega (arith, moves-within h)) (λ i l m. right.moved i l (omega arith))
+          ∙ ap (λ (i : ℕ). mixed i zs xs) s
+      at false e =
+          let h : p.first ≡ p.start = omega (arith, ltb-false p.first p.start e, right.in_order) in
+          sym right.begins ∙ ap (λ (i : ℕ). mixed i zs xs) h

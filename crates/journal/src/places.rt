@@ -5,9 +5,6 @@ ghost use Rattle.journal.specs.Places.{used_after, entered_count, places_of};
 
 use crate::event::{Batch, Event, MAX_ENTRIES, RECORD_COUNT};
 
-// With as many events before, 64 bits do not hold the numbers of MAX_ENTRIES more.
-const EVENTS_LIMIT: u64 = 18446744073709551607;
-
 // The places that change: those from `first` on are given the record `by` places further on, and those from `start` on
 // the events, to the place before `end`.
 #[derive(Clone, Copy)]
@@ -19,29 +16,24 @@ pub struct Places {
 }
 
 // How many records are in use after so many events.
+#[tactic(auto, unfolding(crate::specs::Places::used_after))]
 fn used_after(events: u64) -> usize
     ensures { result ≡ used_after events }
 {
-    if events < 64 {
-        return events as usize;
-    }
-    RECORD_COUNT
+    events.min(RECORD_COUNT as u64) as usize
 }
 
-// How many events are entered.
+// How many events are entered: none in a row of another length, or where 64 bits do not hold the numbers of MAX_ENTRIES
+// more.
+#[tactic(auto, unfolding(crate::specs::Places::entered_count, crate::specs::Events::count_of))]
 fn entered_count(records: usize, events: u64, count: u64) -> usize
     ensures { result ≡ entered_count records events count }
 {
-    if records != RECORD_COUNT {
-        return 0;
+    if records == RECORD_COUNT && events.checked_add(MAX_ENTRIES as u64).is_some() {
+        count.min(MAX_ENTRIES as u64) as usize
+    } else {
+        0
     }
-    if events >= EVENTS_LIMIT {
-        return 0;
-    }
-    if count < 9 {
-        return count as usize;
-    }
-    MAX_ENTRIES
 }
 
 // The places that change in a row of so many records, where so many events more are entered after the others.
@@ -74,7 +66,6 @@ pub fn event_at(events: u64, clock: u64, batch: Batch, k: usize) -> Event
     ensures { result ≡ event_at events clock batch k }
 {
     let entry = batch.entries[k];
-    let kind = entry.kind;
     Event {
         number: events + 1 + k as u64,
         clock,
@@ -83,6 +74,6 @@ pub fn event_at(events: u64, clock: u64, batch: Batch, k: usize) -> Event
         order: entry.order,
         high: entry.high,
         low: entry.low,
-        kind,
+        kind: entry.kind,
     }
 }

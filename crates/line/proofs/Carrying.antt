@@ -1,5 +1,10 @@
 -- What each decision leaves of lent memory is what the definition says; the row after the generator has moved. Assumes
 -- nothing.
+use Rattle.std.specs.Prelude.{Some}
+use Rattle.std.specs.Prelude.{None}
+use Rattle.line.specs.Calls.{out_of}
+use Rattle.std.specs.Prelude.{Ok}
+use Rattle.std.specs.Prelude.{Result}
 use Prim.Native.Nat.{ℕ, ◌≤◌, ◌<◌}
 use mathlib.Core.Bool.{true}
 use mathlib.Core.List.{List, [], ◌∷◌}
@@ -13,8 +18,8 @@ use Rattle.octets.proofs.Tests.{and-true}
 use Rattle.octets.proofs.Numbers.{overwrite-nil}
 use Rattle.line.specs.declared.decision.Decision.{Decision}
 use Rattle.line.specs.declared.decision.Decision.TheVariants.{Lose, Hold}
-use Rattle.line.specs.declared.calls.PutAnswer.{PutAnswer}
-use Rattle.line.specs.declared.calls.PutAnswer.TheVariants.{Out, OutAndHeld}
+use Rattle.number_table.specs.declared.table.WrongLength.{WrongLength}
+use Rattle.line.specs.declared.calls.Delivery.{Delivery}
 use Rattle.line.specs.Generator.{moved}
 use Rattle.line.specs.Line.{
   Message,
@@ -38,7 +43,7 @@ use Rattle.line.proofs.Moves.{moved-lt, moved-zero}
 use Rattle.line.proofs.Rows.{laid, two-first, row-own, store-own, count-own, value-own}
 
 -- equal in all parts
-pub put_same : {a a' : PutAnswer} {r r' s s' o o' : List ℕ} → a ≡ a' → r ≡ r' → s ≡ s' → o ≡ o'
+pub put_same : {a a' : Result Delivery WrongLength} {r r' s s' o o' : List ℕ} → a ≡ a' → r ≡ r' → s ≡ s' → o ≡ o'
     → put_call_of a r s o ≡ put_call_of a' r' s' o'
 put_same p q t u = cc
 
@@ -48,14 +53,14 @@ none_out : (l : Line) → l.held ≡ [] → without_oldest l ≡ l
 none_out l e = ap (line l.value) (ap (λ (x : List Message). drop 1 x) e ∙ sym e)
 
 module _ (row s : List ℕ) (l : Laid row) (h : length s ≡ store_bytes) where
-  pub nothing_left : (o : List ℕ) (m : Message) → put_call_of (Out 0) row s o ≡ put_left (carried_out Lose (line_of row s) m) s o
+  pub nothing_left : (o : List ℕ) (m : Message) → put_call_of (Ok (out_of 0 None)) row s o ≡ put_left (carried_out Lose (line_of row s) m) s o
   unfolding carried_out joined
   nothing_left o m = put_same refl (sym (row-own row l s h)) (sym (store-own row l s h)) (sym (overwrite-nil o 0))
 
   -- the message is held
   pub held-left : (o row' s' : List ℕ) (m : Message) → row' ≡ row_of (with_newest m (line_of row s))
       → s' ≡ store_of (with_newest m (line_of row s)) s
-      → put_call_of (Out 0) row' s' o ≡ put_left (carried_out Hold (line_of row s) m) s o
+      → put_call_of (Ok (out_of 0 None)) row' s' o ≡ put_left (carried_out Hold (line_of row s) m) s o
   unfolding carried_out joined
   held-left o row' s' m p q = put_same refl p q (sym (overwrite-nil o 0))
 
@@ -68,7 +73,7 @@ module _ (row s : List ℕ) (l : Laid row) (h : length s ≡ store_bytes) where
   one-first [] e = absurd (omega arith)
   one-first (m ∷ held) e = refl
 
-  pub none-released : (o : List ℕ) (n : ℕ) → count_of row ≡ 0 → put_call_of (Out n) row s o ≡ put_left (delivered n (line_of row s)) s o
+  pub none-released : (o : List ℕ) (n : ℕ) → count_of row ≡ 0 → put_call_of (Ok (out_of n None)) row s o ≡ put_left (delivered n (line_of row s)) s o
   unfolding joined
   none-released o n e =
       let k : (line_of row s).held ≡ [] = none_first (line_of row s).held (count-own row l s h ∙ e) in
@@ -79,10 +84,10 @@ module _ (row s : List ℕ) (l : Laid row) (h : length s ≡ store_bytes) where
 
   -- copies come out, and after them the message held longest
   pub one-released : (o row' s' o' : List ℕ) (n k : ℕ) → 0 < count_of row → Released (line_of row s) s o k row' s' o'
-      → put_call_of (OutAndHeld n k) row' s' o' ≡ put_left (delivered n (line_of row s)) s o
+      → put_call_of (Ok (out_of n (Some k))) row' s' o' ≡ put_left (delivered n (line_of row s)) s o
   one-released o row' s' o' n k e r =
       let f = one-first (line_of row s).held (omega (arith, count-own row l s h)) in
-      put_same (ap (OutAndHeld n) r.long ∙ ap (answer_for n) (sym f)) r.row r.bytes
+      put_same (ap (λ (m : ℕ). Ok (out_of n (Some m))) r.long ∙ ap (answer_for n) (sym f)) r.row r.bytes
       (r.buffer ∙ ap (overwrite o 0) (sym (joined-one (oldest (line_of row s))) ∙ ap joined (sym f)))
 
 -- ---- the generator moves

@@ -1,4 +1,7 @@
 -- Calls one after another on a line's memory follow the line. Assumes nothing.
+use Rattle.number_table.specs.Numbers.{number_one}
+use Rattle.line.specs.declared.calls.MakeRefusal.{MakeRefusal}
+use Rattle.std.specs.Prelude.{Err, Ok, Result}
 use Prim.Native.Nat.{ℕ, zero, suc, ◌+◌, ◌-◌, ◌*◌, ◌≤◌, ◌<◌}
 use mathlib.Core.Bool.{Bool, true, false, cond, ◌&&◌}
 use mathlib.Core.List.Memᴰ.{head as here}
@@ -22,9 +25,7 @@ use lib.Seq.{take_at, get_or-drop, get_or-take}
 use borrow.Author.Tests.{eq-eqb, ne_eqb, eqb-true, eqb-false, lt-ltb, ltb-true, ltb-false, leb-true, le-leb}
 use Rattle.octets.specs.Bytes.{overwrite}
 use Rattle.octets.proofs.Tests.{never, and-true}
-use Rattle.line.specs.declared.calls.MakeAnswer.{MakeAnswer}
-use Rattle.line.specs.declared.calls.MakeAnswer.TheVariants as make
-use Rattle.line.specs.declared.calls.PutAnswer.TheVariants.{WrongLength}
+use Rattle.line.specs.declared.calls.MakeRefusal.TheVariants as make
 use Rattle.line.specs.Generator.{value_limit}
 use Rattle.line.specs.Line.{Message, most_held, message_bytes, Line, line, made, put}
 use Rattle.line.specs.Memory.{
@@ -178,20 +179,20 @@ module _ (l : Line) (p : Proper l) (old : List ℕ) (long : length old ≡ store
 made-proper : (seed : ℕ) → 0 < seed → seed < value_limit → Proper (made seed)
 made-proper seed h k = record { live = h; word = k; most = omega arith; short = λ m i. absurd (in-none i) }
 
-abbrev is_made : MakeAnswer → Bool
-is_made make.Made = true
-is_made make.WrongLength = false
-is_made make.SeedZero = false
+abbrev is_made : Result (Unit {0}) MakeRefusal → Bool
+is_made (Ok u) = true
+is_made (Err make.WrongLength) = false
+is_made (Err make.SeedZero) = false
 
 -- a line that is made
-pub make-lies : (row store : List ℕ) (seed : ℕ) → seed < value_limit → (make_call row store seed).answer ≡ make.Made →
+pub make-lies : (row store : List ℕ) (seed : ℕ) → seed < value_limit → (make_call row store seed).answer ≡ Ok tt →
     Lies (made seed) (make_call row store seed).row store
 unfolding make_call joined
 make-lies row store seed k = at (eqb (length row) row_size) (eqb (length store) store_bytes) (eqb seed 0) refl refl
   where
     at : (a b c : Bool) → eqb (length store) store_bytes ≡ b → eqb seed 0 ≡ c →
-        let o = cond (a && b) (cond c (make_call_of make.SeedZero row) (make_call_of make.Made (row_of (made seed)))) (make_call_of make.WrongLength row) in
-        o.answer ≡ make.Made → Lies (made seed) o.row store
+        let o = cond (a && b) (cond c (make_call_of (Err make.SeedZero) row) (make_call_of (Ok tt) (row_of (made seed)))) (make_call_of (Err make.WrongLength) row) in
+        o.answer ≡ Ok tt → Lies (made seed) o.row store
     at true true false e f h = record {
       proper = made-proper seed (let z = eqb-false seed 0 f in omega arith) k;
       is = refl;
@@ -235,7 +236,7 @@ module _ (l : Line) (m : Message) (row store out : List ℕ) (v : Lies l row sto
   not-put true false f = refl
   not-put false b f = refl
 
-  put_refused : ((length m ≤ message_bytes) × (message_bytes ≤ length out) → ⊥) → put_call row store m out ≡ put_call_of WrongLength row store out
+  put_refused : ((length m ≤ message_bytes) × (message_bytes ≤ length out) → ⊥) → put_call row store m out ≡ put_call_of (Err number_one) row store out
   unfolding put_call
   put_refused f =
       rw (
@@ -287,7 +288,7 @@ unfolding make_call row_of
 make-length row store seed = at (eqb (length row) row_size) (eqb (length store) store_bytes) (eqb seed 0) refl
   where
     at : (a b c : Bool) → eqb (length row) row_size ≡ a →
-        length (cond (a && b) (cond c (make_call_of make.SeedZero row) (make_call_of make.Made (row_of (made seed)))) (make_call_of make.WrongLength row)).row
+        length (cond (a && b) (cond c (make_call_of (Err make.SeedZero) row) (make_call_of (Ok tt) (row_of (made seed)))) (make_call_of (Err make.WrongLength) row)).row
         ≡ length row
     at true true false e = sym (eqb-true (length row) row_size e)
     at true true true e = refl
@@ -300,7 +301,7 @@ unfolding put_call
 put-lengths row store m out = at (is_fit row (length store) (length m) (length out)) refl
   where
     at : (t : Bool) → is_fit row (length store) (length m) (length out) ≡ t →
-        let k = cond t (put_left (put (line_of row store) m) store out) (put_call_of WrongLength row store out) in
+        let k = cond t (put_left (put (line_of row store) m) store out) (put_call_of (Err number_one) row store out) in
         (length k.row ≡ length row) × (length k.store ≡ length store)
     at true e =
         let f = fit row (length store) (length m) (length out) e in

@@ -16,20 +16,14 @@ pub enum Decision {
 const OUTCOMES: u32 = 8;
 
 // What a value decides where so many messages are held.
+#[tactic(auto, unfolding(crate::specs::Line::decision))]
 pub fn decide(value: u32, count: usize) -> Decision
     ensures { result ≡ decision value count }
 {
-    let rest = value % OUTCOMES;
-    if rest == 0 {
-        return Decision::Lose;
+    match value % OUTCOMES {
+        0 => Decision::Lose,
+        1 => Decision::Deliver(2),
+        2 if count < MOST_HELD => Decision::Hold,
+        _ => Decision::Deliver(1),
     }
-    if rest == 1 {
-        return Decision::Deliver(2);
-    }
-    if rest == 2 {
-        if count < MOST_HELD {
-            return Decision::Hold;
-        }
-    }
-    Decision::Deliver(1)
 }

@@ -6,6 +6,7 @@ ghost use Rattle.line.specs.Generator.{moved};
 pub(crate) const VALUE_LIMIT: u64 = 4294967296;
 
 // One move.
+#[tactic(auto, unfolding(crate::specs::Generator::left_xor, crate::specs::Generator::right_xor, crate::specs::Generator::moved))]
 pub fn moved(x: u32) -> u32
     ensures { result ≡ moved x }
 {

@@ -24,13 +24,15 @@ use crate::layout::{COUNT_AT, LENGTHS_AT, MESSAGE_BYTES, MOST_HELD, ROW_SIZE, VA
 use octets::bytes::copy;
 
 // The most that length i of the row may be: 0 behind those of the messages held.
+#[tactic(auto, unfolding(crate::specs::Memory::length_limit))]
 fn length_limit(count: u64, i: usize) -> u64
     ensures { result ≡ length_limit count i }
 {
     if (i as u64) < count {
-        return MESSAGE_BYTES as u64;
+        MESSAGE_BYTES as u64
+    } else {
+        0
     }
-    0
 }
 
 // Whether the lengths are those of messages held, and 0 behind them.
@@ -38,33 +40,19 @@ fn are_lengths(row: &[u64]) -> bool
     requires { length row.now ≡ row_size }
     ensures { result ≡ all_below (is_length row.now) most_held }
 {
-    let mut i = 0;
-    while i < MOST_HELD {
-        if length_limit(row[COUNT_AT], i) < row[LENGTHS_AT + i] {
-            return false;
-        }
-        i += 1;
-    }
-    true
+    (0..MOST_HELD).all(|i| row[LENGTHS_AT + i] <= length_limit(row[COUNT_AT], i))
 }
 
 // Whether the row is one that calls leave.
+#[tactic(auto, unfolding(crate::specs::Memory::is_line))]
 pub(crate) fn is_line(row: &[u64]) -> bool
     ensures { result ≡ is_line row.now }
 {
-    if row.len() != ROW_SIZE {
-        return false;
-    }
-    if row[VALUE_AT] == 0 {
-        return false;
-    }
-    if VALUE_LIMIT <= row[VALUE_AT] {
-        return false;
-    }
-    if (MOST_HELD as u64) < row[COUNT_AT] {
-        return false;
-    }
-    are_lengths(row)
+    row.len() == ROW_SIZE
+        && row[VALUE_AT] != 0
+        && row[VALUE_AT] < VALUE_LIMIT
+        && row[COUNT_AT] <= MOST_HELD as u64
+        && are_lengths(row)
 }
 
 // How many bytes are held.
@@ -72,13 +60,7 @@ fn bytes_held(row: &[u64]) -> usize
     requires { Laid row.now }
     ensures { result ≡ total (drop lengths_at row.now) }
 {
-    let mut sum: usize = 0;
-    let mut i = 0;
-    while i < MOST_HELD {
-        sum += row[LENGTHS_AT + i] as usize;
-        i += 1;
-    }
-    sum
+    row[LENGTHS_AT..].iter().sum::<u64>() as usize
 }
 
 // Moves the bytes from place n on, up to an end, to the front.
@@ -86,11 +68,7 @@ fn close_up(store: &mut [u8], n: usize, end: usize)
     requires { (n ≤ end) × (end ≤ length store.old) }
     ensures { store.new ≡ overwrite store.old 0 (take (end - n) (drop n store.old)) }
 {
-    let mut i = 0;
-    while i < end - n {
-        store[i] = store[n + i];
-        i += 1;
-    }
+    store.copy_within(n..end, 0);
 }
 
 // Drops the first length, and moves the others up.
@@ -98,11 +76,7 @@ fn drop_length(row: &mut [u64])
     requires { length row.old ≡ row_size }
     ensures { row.new ≡ take lengths_at row.old ++ (drop (lengths_at + 1) row.old ++ (0 ∷ [])) }
 {
-    let mut i = 0;
-    while i < MOST_HELD - 1 {
-        row[LENGTHS_AT + i] = row[LENGTHS_AT + 1 + i];
-        i += 1;
-    }
+    row.copy_within(LENGTHS_AT + 1.., LENGTHS_AT);
     row[ROW_SIZE - 1] = 0;
 }
 

@@ -24,15 +24,13 @@ fn offset(timestamp: u64, clock: u64) -> i64
 fn opens(form: RequestForm) -> bool
     ensures { result ≡ opens form }
 {
-    match form {
-        RequestForm::UploadOpening => true,
-        RequestForm::DownloadOpening => true,
-        RequestForm::UploadTransfer => false,
-        RequestForm::DownloadTransfer => false,
-        RequestForm::Receipt => false,
-        RequestForm::Signing => true,
-        RequestForm::ChosenOpening => true,
-    }
+    matches!(
+        form,
+        RequestForm::UploadOpening
+            | RequestForm::DownloadOpening
+            | RequestForm::Signing
+            | RequestForm::ChosenOpening
+    )
 }
 
 // Whether the form is one of an opening.
@@ -40,9 +38,8 @@ fn is_opening(form: Form) -> bool
     ensures { result ≡ is_opening form }
 {
     match form {
-        Form::NoForm => false,
         Form::Request(x) => opens(x),
-        Form::Reply(_) => false,
+        _ => false,
     }
 }
 
@@ -50,10 +47,7 @@ fn is_opening(form: Form) -> bool
 fn shows_offset(answered: bool, form: Form) -> bool
     ensures { result ≡ shows_offset answered form }
 {
-    if !answered {
-        return false;
-    }
-    is_opening(form)
+    answered && is_opening(form)
 }
 
 // Writes the offset of the request at this clock, or a hyphen where the call shows none.
@@ -61,8 +55,9 @@ pub fn put_offset(output: &mut [u8], at: usize, answered: bool, q: Fields, clock
     requires { (at + offset_room ≤ length output.old) × (clock ≤ last_time) × Timed q }
     ensures { Put output.old at (request_offset answered q clock) output.new result }
 {
-    if !shows_offset(answered, q.form()) {
-        return put_byte(output, at, b'-');
+    if shows_offset(answered, q.form()) {
+        put_signed(output, at, offset(q.timestamp(), clock))
+    } else {
+        put_byte(output, at, b'-')
     }
-    put_signed(output, at, offset(q.timestamp(), clock))
 }

@@ -1,5 +1,6 @@
 -- The clock that a call leaves: the larger of its old value and the time given, and so at most the last time. Assumes
 -- nothing.
+use Rattle.std.specs.Prelude.{Ok}
 use Prim.Native.Nat.{ℕ, ◌≤◌}
 use mathlib.Core.Bool.{Bool, true, false}
 use mathlib.Core.List.{List}
@@ -27,7 +28,6 @@ use Rattle.bank_verdicts.specs.declared.verdict.Verdict.TheVariants as verdict
 use Rattle.bank_verdicts.specs.Judgement.{judge}
 use Rattle.bank_steps.specs.Lent.{Lent, state_of}
 use Rattle.bank_steps.specs.Steps.{carry_out}
-use Rattle.bank.specs.declared.call.FrameAnswer.TheVariants.{Reply}
 use Rattle.bank.specs.Call.{context_of, FrameInput, respond, lent_right, frame_call}
 use Rattle.bank.specs.Journal.{clock_by}
 use Rattle.bank.specs.Lent.{LentFrameCall, lent_frame_call}
@@ -67,7 +67,7 @@ module _ (w : BankState) (a : FrameInput) where
       (carried-clock (judge (context_of a) v.bank q (length d)) v q d ∙ (advanced-at-clock a.time w).clock)
 
   -- an answered call is one that passes them
-  answered-clock : (b : Bool) → lent_right w a ≡ b → (n : ℕ) → (frame_call w a).answer ≡ Reply n
+  answered-clock : (b : Bool) → lent_right w a ≡ b → (n : ℕ) → (frame_call w a).answer ≡ Ok n
       → (frame_call w a).bank_state.bank.clock ≡ clock_by w a
   unfolding frame_call
   answered-clock true e n h = right-clock e
@@ -85,7 +85,7 @@ module _ (m : Lent) (a : FrameInput) (k : Clocked m.rows) where
   left-clock = ap (λ (w : BankState). w.bank.clock) (frame-state m a k.sound)
 
   -- "A call first sets the clock to the larger of its old value and the time given"
-  pub clock-set : (n : ℕ) → (lent_frame_call m a).answer ≡ Reply n
+  pub clock-set : (n : ℕ) → (lent_frame_call m a).answer ≡ Ok n
       → (bank_of (lent_frame_call m a).lent.rows).clock ≡ clock_by (state_of m) a
   clock-set n h =
       let told = ap (λ (c : LentFrameCall). c.answer) (lent-frame m a k.sound) in
@@ -108,7 +108,7 @@ unfolding fresh
 clocked-fresh = record { sound = zeros-sound; in_time = rw fresh-rows (omega arith) }
 
 -- the clock of an offset is the one that the call leaves
-pub offset-clock : (s : MarkerState) → Clocked s.lent.rows → (n : ℕ) → (call_of s).answer ≡ Reply n
+pub offset-clock : (s : MarkerState) → Clocked s.lent.rows → (n : ℕ) → (call_of s).answer ≡ Ok n
     → offset_clock s ≡ (bank_of (called s).lent.rows).clock
 unfolding call_of called
 offset-clock s k n h = sym (clock-set s.lent (input_of s) k n h)

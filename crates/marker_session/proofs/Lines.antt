@@ -1,21 +1,19 @@
 -- What marking's loop keeps from call to call. Assumes nothing.
-use Prim.Native.Nat.{ℕ, zero, suc, ◌+◌, ◌-◌, ◌*◌, ◌≤◌, ◌<◌}
-use mathlib.Core.Bool.{true, false, ◌&&◌}
+use Rattle.std.specs.Prelude.{Ok}
+use Prim.Native.Nat.{ℕ, suc, ◌+◌, ◌*◌, ◌≤◌}
+use mathlib.Core.Bool.{true, false}
 use mathlib.Core.List.{List, [], ◌++◌, append_assoc, append-nil}
-use mathlib.Core.Path.{◌≡◌, refl, sym, ap, ◌∙◌}
+use mathlib.Core.Path.{◌≡◌, sym, ap, ◌∙◌}
 use native.Mathlib.Omega.{arith}
-use lib.Dec.{ltb}
 use lib.ListN.{length, drop, replicate}
 use lib.Seq.{drop-drop}
 use native.Mathlib.Nat.{add_assoc}
-use borrow.Author.Tests.{lt-ltb}
 use Rattle.frame_table.specs.declared.fields.Fields.{Fields}
 use Rattle.frame_reader.specs.Reader.{read_request}
 use Rattle.print.specs.Text.{Put}
-use Rattle.print.proofs.Texts.{put-length, put_then}
+use Rattle.print.proofs.Texts.{put-length, put-nothing, put_then}
 use Rattle.bank_state.specs.Limits.{id_bytes}
 use Rattle.bank_rows.specs.State.{bank_of}
-use Rattle.bank.specs.declared.call.FrameAnswer.TheVariants.{Reply}
 use Rattle.bank.specs.Call.{frame_input}
 use Rattle.bank_steps.specs.Lent.{Lent}
 use Rattle.bank.specs.Lent.{LentFrameCall, lent_frame_call}
@@ -51,7 +49,7 @@ module _ (input : List ℕ) (memory : Lent) (buffer output : List ℕ) (m : Mark
   marked-call rest er time et frame ef size es k e timed clock ec q eq output' written put =
       let is : k ≡ call_of here = e ∙ rw (et, ef, er) in
       let brought : frame ≡ frame_in (drop m.used input) = ef ∙ ap frame_in er in
-      let kept : (n : ℕ) → k.answer ≡ Reply n → clock ≡ offset_clock here =
+      let kept : (n : ℕ) → k.answer ≡ Ok n → clock ≡ offset_clock here =
       λ n h. ec ∙ ap (λ (x : LentFrameCall). (bank_of x.lent.rows).clock) is
       ∙ sym (offset-clock here timed n (ap (λ (x : LentFrameCall). x.answer) (sym is) ∙ h)) in
       let line : coded_line (m.calls + 1) k.answer k.code q clock ≡ called_line here
@@ -75,28 +73,38 @@ module _ (s : MarkerState) (input old : List ℕ) (m : Marked) (memory : Lent) (
   abbrev now : MarkerState
   now = state_of m input memory buffer
 
-  pub marking-next : (left : ℕ) → Marking s input old left m memory buffer output
-      → 0 < left → is_ready m.calls (drop m.used input) ≡ true
+  -- at the start, and after one more call
+  pub marking-begin : (left : ℕ) → left ≡ lines_in (length old) → now ≡ s → output ≡ old → m.written ≡ 0
+      → Marking s input old left m memory buffer output
+  marking-begin left e t o z = record {
+    text = [];
+    calls = ap (λ (x : MarkerState). calls_to (lines_in (length old)) x) (sym t) ∙ ap (λ (n : ℕ). calls_to n now) (sym e);
+    lines = ap (λ (x : MarkerState). lines_to (lines_in (length old)) x) (sym t) ∙ ap (λ (n : ℕ). lines_to n now) (sym e);
+    put = rw (o, z) (put-nothing old 0 (omega arith));
+    room = omega (arith, e, z);
+  }
+
+  pub marking-next : (left n : ℕ) → left ≡ suc n → Marking s input old left m memory buffer output
+      → is_ready m.calls (drop m.used input) ≡ true
       → (m' : Marked) (memory' : Lent) (buffer' output' : List ℕ)
       → print_of m' input memory' buffer' output' ≡ marked_next m.written now output
-      → Marking s input old (left - 1) m' memory' buffer' output'
-  marking-next zero k h e m' memory' buffer' output' p = absurd (omega arith)
-  marking-next (suc n) k h e m' memory' buffer' output' p =
+      → Marking s input old n m' memory' buffer' output'
+  marking-next left n z k e m' memory' buffer' output' p =
       let there : called now ≡ state_of m' input memory' buffer' = ap (λ (x : Print). x.state) (sym p) in
-      let z : suc n - 1 ≡ n = omega arith in
       let fit = line-fits now in
       let place = ap (λ (x : Print). x.written) p in
       record {
         text = k.text ++ called_line now;
-        calls = k.calls ∙ calls-turn now n e ∙ rw (there, z);
-        lines = k.lines ∙ ap (λ (l : List ℕ). k.text ++ l) (lines-turn now n e)
-            ∙ sym (append_assoc k.text (called_line now) (lines_to n (called now))) ∙ rw (there, z);
+        calls = k.calls ∙ ap (λ (i : ℕ). calls_to i now) z ∙ calls-turn now n e ∙ ap (λ (x : MarkerState). calls_to n x) there;
+        lines = k.lines ∙ ap (λ (i : ℕ). k.text ++ lines_to i now) z ∙ ap (λ (l : List ℕ). k.text ++ l) (lines-turn now n e)
+            ∙ sym (append_assoc k.text (called_line now) (lines_to n (called now)))
+            ∙ ap (λ (x : MarkerState). (k.text ++ called_line now) ++ lines_to n x) there;
         put = put_then k.put (record {
           place = place;
-          fits = omega (arith, put-length k.put, k.room);
+          fits = omega (arith, put-length k.put, k.room, z);
           bytes = ap (λ (x : Print). x.output) p;
         });
-        room = omega (arith, k.room);
+        room = omega (arith, k.room, z);
       }
 
   ended : (left : ℕ) → Marking s input old left m memory buffer output → calls_to left now ≡ now → lines_to left now ≡ []
@@ -104,11 +112,12 @@ module _ (s : MarkerState) (input old : List ℕ) (m : Marked) (memory : Lent) (
   ended left k c l =
       rw (k.calls ∙ c, k.lines ∙ ap (λ (x : List ℕ). k.text ++ x) l ∙ append-nil k.text, k.put.place, k.put.bytes)
 
-  pub marking-end : (left : ℕ) → Marking s input old left m memory buffer output
-      → (ltb 0 left && is_ready m.calls (drop m.used input)) ≡ false
+  pub marking-none : (left : ℕ) → Marking s input old left m memory buffer output
+      → is_ready m.calls (drop m.used input) ≡ false
+      → print_of m input memory buffer output ≡ marked_all s old
+  marking-none left k e = ended left k (calls-none now left e) (lines_none now left e)
+
+  pub marking-full : (left : ℕ) → Marking s input old left m memory buffer output → left ≡ 0
       → print_of m input memory buffer output ≡ marked_all s old
   unfolding calls_to lines_to
-  marking-end zero k e = ended zero k refl refl
-  marking-end (suc n) k e =
-      let none = rw (lt-ltb 0 (suc n) (omega arith)) at e in
-      ended (suc n) k (calls-none now (suc n) none) (lines_none now (suc n) none)
+  marking-full left k e = ended left k (ap (λ (n : ℕ). calls_to n now) e) (ap (λ (n : ℕ). lines_to n now) e)

@@ -1,4 +1,6 @@
 -- How long the lines are at most, and their code. Assumes nothing.
+use Rattle.number_table.specs.declared.table.WrongLength.{WrongLength}
+use Rattle.std.specs.Prelude.{Err, Ok, Result}
 use Prim.Native.Nat.{ℕ, ◌≤◌}
 use mathlib.Core.List.{List, [], ◌∷◌, ◌++◌}
 use mathlib.Core.Bool.{Bool, true, false, cond}
@@ -9,8 +11,6 @@ use Rattle.frame_table.specs.Names.{return_code}
 use Rattle.frame_reader.specs.Reader.{read_request, read_reply}
 use Rattle.print.specs.Text.{code_digits, digit_count_to, digit_count, decimal, space, newline, column}
 use Rattle.print.proofs.Digits.{length-digits_in, column-most}
-use Rattle.bank.specs.declared.call.FrameAnswer.{FrameAnswer}
-use Rattle.bank.specs.declared.call.FrameAnswer.TheVariants.{Reply, WrongLength}
 use Rattle.frame_row.specs.Row.{data_of}
 use Rattle.bank_state.specs.State.{BankState}
 use Rattle.bank_state.specs.Clock.{advanced}
@@ -22,23 +22,23 @@ use Rattle.marker_column.specs.Offset.{request_offset}
 use Rattle.marker_column.proofs.Offsets.{offset-most}
 use Rattle.marker_session.specs.Lines.{code_of, answer_text, is_answered, offset_text, line_of, coded_text, coded_line, line_room}
 
-pub answer-most : (a : FrameAnswer) (buffer : List ℕ) → length (answer_text a buffer) ≤ code_digits
+pub answer-most : (a : Result ℕ WrongLength) (buffer : List ℕ) → length (answer_text a buffer) ≤ code_digits
 unfolding code_of decimal digit_count digit_count_to
-answer-most (Reply n) buffer = omega (arith, length-digits_in 256 0 code_digits (return_code (read_reply (take n buffer))))
-answer-most WrongLength buffer = omega (arith, length-digits_in 10 48 1 1)
+answer-most (Ok n) buffer = omega (arith, length-digits_in 256 0 code_digits (return_code (read_reply (take n buffer))))
+answer-most (Err e) buffer = omega (arith, length-digits_in 10 48 1 1)
 
-pub coded-most : (a : FrameAnswer) (code : ℕ) → length (coded_text a code) ≤ code_digits
+pub coded-most : (a : Result ℕ WrongLength) (code : ℕ) → length (coded_text a code) ≤ code_digits
 unfolding decimal digit_count digit_count_to
-coded-most (Reply n) code = omega (arith, length-digits_in 256 0 code_digits code)
-coded-most WrongLength code = omega (arith, length-digits_in 10 48 1 1)
+coded-most (Ok n) code = omega (arith, length-digits_in 256 0 code_digits code)
+coded-most (Err e) code = omega (arith, length-digits_in 10 48 1 1)
 
 -- the line goes by the return code of the reply in the buffer, and where there is a reply by the clock
-pub coded-line : (n : ℕ) (a : FrameAnswer) (buffer : List ℕ) (code : ℕ) (frame : List ℕ) {clock c : ℕ}
-    → code ≡ reply_code a buffer → ((k : ℕ) → a ≡ Reply k → clock ≡ c)
+pub coded-line : (n : ℕ) (a : Result ℕ WrongLength) (buffer : List ℕ) (code : ℕ) (frame : List ℕ) {clock c : ℕ}
+    → code ≡ reply_code a buffer → ((k : ℕ) → a ≡ Ok k → clock ≡ c)
     → coded_line n a code (read_request frame) clock ≡ line_of n a buffer frame c
 unfolding coded_line line_of code_of request_offset
-coded-line n (Reply k) buffer code frame e f = rw (e, f k refl)
-coded-line n WrongLength buffer code frame e f = refl
+coded-line n (Ok k) buffer code frame e f = rw (e, f k refl)
+coded-line n (Err x) buffer code frame e f = refl
 
 -- a call's code is that of the reply that it leaves in the buffer
 module _ (m : Lent) (a : FrameInput) where
@@ -61,7 +61,7 @@ module _ (m : Lent) (a : FrameInput) where
   unfolding lent_frame_call
   call-code r e = rw e (by_rows (is_sound m.rows))
 
-pub line-most : (n : ℕ) (a : FrameAnswer) (buffer frame : List ℕ) (clock : ℕ)
+pub line-most : (n : ℕ) (a : Result ℕ WrongLength) (buffer frame : List ℕ) (clock : ℕ)
     → length (line_of n a buffer frame clock) ≤ line_room
 unfolding line_of
 line-most n a buffer frame clock =

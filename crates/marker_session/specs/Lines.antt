@@ -1,12 +1,13 @@
 -- "The marker's print": a record of the input, and the line of a call. The book follows (`print`, `Book`).
+use Rattle.number_table.specs.Numbers.{number_one}
+use Rattle.number_table.specs.declared.table.WrongLength.{WrongLength}
+use Rattle.std.specs.Prelude.{Err, Ok, Result}
 use Rattle.std.specs.Prelude.{ℕ, ◌+◌, Bool, true, false, ◌&&◌, List, [], ◌∷◌, ◌++◌, leb, length, take, drop}
 use Rattle.octets.specs.Bytes.{number}
 use Rattle.frame_table.specs.Table.{timestamp_tag, width}
 use Rattle.frame_table.specs.Names.{return_code}
 use Rattle.frame_reader.specs.Reader.{read_request, read_reply}
 use Rattle.print.specs.Text.{ascii, max_digits, code_digits, code_text, decimal, space, newline, column}
-use Rattle.bank.specs.declared.call.FrameAnswer.{FrameAnswer}
-use Rattle.bank.specs.declared.call.FrameAnswer.TheVariants.{Reply, WrongLength}
 use Rattle.bank.specs.Call.{frame_number}
 use Rattle.frame_table.specs.declared.fields.Fields.{Fields}
 use Rattle.marker_column.specs.Offset.{request_offset, offset_room}
@@ -40,31 +41,31 @@ unfoldable pub code_of : List ℕ → ℕ → List ℕ
 code_of buffer n = code_text (return_code (read_reply (take n buffer)))
 
 -- "a call given a number prints it in place of the code"
-abbrev pub answer_text : FrameAnswer → List ℕ → List ℕ
-answer_text (Reply n) buffer = code_of buffer n
-answer_text WrongLength buffer = decimal (frame_number WrongLength)
+abbrev pub answer_text : Result ℕ WrongLength → List ℕ → List ℕ
+answer_text (Ok n) buffer = code_of buffer n
+answer_text (Err e) buffer = decimal (frame_number (Err number_one))
 
 -- "each readable opening answered by a frame": whether a call is
-abbrev pub is_answered : FrameAnswer → Bool
-is_answered (Reply n) = true
-is_answered WrongLength = false
+abbrev pub is_answered : Result ℕ WrongLength → Bool
+is_answered (Ok n) = true
+is_answered (Err e) = false
 
 -- the third column of a call that brought this frame and set this clock
-abbrev pub offset_text : FrameAnswer → List ℕ → ℕ → List ℕ
+abbrev pub offset_text : Result ℕ WrongLength → List ℕ → ℕ → List ℕ
 offset_text a frame clock = request_offset (is_answered a) (read_request frame) clock
 
 -- "Calls count from 1": the line of call n, which brought this frame and set this clock; the offset stands "in a third
 -- column "offset" behind the code"
-unfoldable pub line_of : ℕ → FrameAnswer → List ℕ → List ℕ → ℕ → List ℕ
+unfoldable pub line_of : ℕ → Result ℕ WrongLength → List ℕ → List ℕ → ℕ → List ℕ
 line_of n a buffer frame clock =
     column n space ++ (answer_text a buffer ++ (space ∷ offset_text a frame clock ++ (newline ∷ [])))
 
 -- the same text and line, from the return code of the reply and the request
-abbrev pub coded_text : FrameAnswer → ℕ → List ℕ
-coded_text (Reply n) code = code_text code
-coded_text WrongLength code = decimal (frame_number WrongLength)
+abbrev pub coded_text : Result ℕ WrongLength → ℕ → List ℕ
+coded_text (Ok n) code = code_text code
+coded_text (Err e) code = decimal (frame_number (Err number_one))
 
-unfoldable pub coded_line : ℕ → FrameAnswer → ℕ → Fields → ℕ → List ℕ
+unfoldable pub coded_line : ℕ → Result ℕ WrongLength → ℕ → Fields → ℕ → List ℕ
 coded_line n a code q clock =
     column n space ++ (coded_text a code ++ (space ∷ request_offset (is_answered a) q clock ++ (newline ∷ [])))
 

@@ -3,5 +3,6 @@
 
 pub mod line;
 pub mod mark;
+mod memory;
 pub mod record;
 pub mod session;

@@ -6,10 +6,9 @@ ghost use Rattle.marker_column.specs.Offset.{Timed};
 ghost use Rattle.marker_session.specs.Lines.{is_answered, coded_text, coded_line, line_room};
 ghost use Rattle.marker_session.specs.Lines.{call_header, header_room};
 
-use bank::call::FrameAnswer;
 use frame_table::fields::Fields;
 use marker_column::offset::{OFFSET_ROOM, put_offset};
-use number_table::table::WRONG_LENGTH;
+use number_table::table::{WRONG_LENGTH, WrongLength};
 use print::text::{put_byte, put_code, put_column, put_text};
 
 // The most bytes of a line: a number, a space, a return code, a space, an offset, a newline.
@@ -22,32 +21,30 @@ pub const HEADER_ROOM: usize = 17;
 const NUMBER_DIGIT: u8 = b'0' + WRONG_LENGTH as u8;
 
 // Writes a call's code, or the number that it was given.
-fn put_answer(output: &mut [u8], at: usize, answer: FrameAnswer, code: u64) -> usize
+fn put_answer(output: &mut [u8], at: usize, answer: Result<usize, WrongLength>, code: u64) -> usize
     requires { at + code_digits ≤ length output.old }
     ensures { Put output.old at (coded_text answer code) output.new result }
 {
     match answer {
-        FrameAnswer::Reply(_) => put_code(output, at, code),
-        FrameAnswer::WrongLength => put_byte(output, at, NUMBER_DIGIT),
+        Ok(_) => put_code(output, at, code),
+        Err(WrongLength) => put_byte(output, at, NUMBER_DIGIT),
     }
 }
 
 // Whether a call is answered by a frame.
-fn is_answered(answer: FrameAnswer) -> bool
+fn is_answered(answer: Result<usize, WrongLength>) -> bool
     ensures { result ≡ is_answered answer }
 {
-    match answer {
-        FrameAnswer::Reply(_) => true,
-        FrameAnswer::WrongLength => false,
-    }
+    answer.is_ok()
 }
 
+// No struct holds the five, which come from three places and stand together in this call alone.
 // Writes the line of call n, which brought this request, set this clock, and whose reply has this return code.
 pub(crate) fn put_line(
     output: &mut [u8],
     at: usize,
     n: u64,
-    answer: FrameAnswer,
+    answer: Result<usize, WrongLength>,
     code: u64,
     q: Fields,
     clock: u64,

@@ -1,11 +1,12 @@
 // Marking: the calls of a part of the input, and their lines in a lent output.
-ghost use Rattle.std.specs.Prelude.{◌≡◌, true, ◌&&◌, ◌+◌, ◌≤◌, ltb, length, drop};
+ghost use Rattle.std.specs.Prelude.{◌≡◌, true, ◌+◌, ◌≤◌, length, drop};
 ghost use Rattle.marker_session.specs.Lines.{line_room};
-ghost use Rattle.bank_steps.specs.Lent.{lent};
+ghost use Rattle.marker_session.specs.Memory.{lent_of};
 ghost use Rattle.marker_session.specs.Marking.{is_ready, marker_state, state_of, print_of, marked_next, marked_all};
 ghost use Rattle.marker_session.specs.Marking.{Clocked};
 
 use crate::line::{LINE_ROOM, put_line};
+use crate::memory::Memory;
 use crate::record::{HEAD_BYTES, frame_in, is_whole, size_of, time_of};
 use bank::call::answer_request;
 use bank_rows::numbers::clock;
@@ -24,102 +25,87 @@ pub struct Marked {
     pub written: usize,
 }
 
-// Whether lines are left, and a whole record stands at the place reached.
-fn is_ready(input: &[u8], left: usize, calls: u64, used: usize) -> bool
-    ensures { result ≡ (ltb 0 left && is_ready calls (drop used input.now)) }
+// Whether a call can be counted, and a whole record stands at the place reached.
+fn is_ready(input: &[u8], calls: u64, used: usize) -> bool
+    ensures { result ≡ is_ready calls (drop used input.now) }
 {
-    if left == 0 {
-        return false;
-    }
-    if MAX_CALLS <= calls {
-        return false;
-    }
-    is_whole(behind(input, used))
+    calls < MAX_CALLS && is_whole(behind(input, used))
 }
 
 // One call, and its line.
-fn mark_call(
-    m: Marked,
-    input: &[u8],
-    output: &mut [u8],
-    rows: &mut [u64],
-    orders: &mut [u8],
-    mailboxes: &mut [u8],
-    buffer: &mut [u8],
-) -> Marked
+fn mark_call(m: Marked, input: &[u8], output: &mut [u8], memory: &mut Memory) -> Marked
     requires { (is_ready m.calls (drop m.used input.now) ≡ true) × (m.written + line_room ≤ length output.old)
-        × Clocked rows.old }
+        × Clocked memory.old.rows }
     ensures { (print_of result input.now
-        (lent rows.new orders.new mailboxes.new)
-        buffer.new output.new
+        (lent_of memory.new)
+        memory.new.buffer output.new
         ≡ marked_next m.written
         (state_of m input.now
-        (lent rows.old orders.old mailboxes.old)
-        buffer.old)
+        (lent_of memory.old)
+        memory.old.buffer)
         output.old)
         × (result.used ≤ length input.now)
-        × Clocked rows.new }
+        × Clocked memory.new.rows }
 {
-    let used = m.used;
-    let rest = behind(input, used);
+    let rest = behind(input, m.used);
     let frame = frame_in(rest);
     let ids = [0u8; ID_BYTES];
     let p = read_whole_request(frame);
     let q = p.fields;
     let bytes = data_at(frame, p.from, p.end);
     let step = answer_request(
-        rows,
+        &mut memory.rows,
         time_of(rest),
         &ids,
         q,
         bytes,
-        orders,
-        mailboxes,
-        buffer,
+        &mut memory.orders,
+        &mut memory.mailboxes,
+        &mut memory.buffer,
     );
     let o = step.out;
     let calls = m.calls + 1;
-    let answer = o.answer;
-    let written = put_line(output, m.written, calls, answer, o.code, q, clock(rows));
+    let written = put_line(
+        output,
+        m.written,
+        calls,
+        o.answer,
+        o.code,
+        q,
+        clock(&memory.rows),
+    );
     Marked {
         calls,
-        used: used + HEAD_BYTES + size_of(rest),
+        used: m.used + HEAD_BYTES + size_of(rest),
         written,
     }
 }
 
 // The calls of the whole records of the input, as many as the output has room for lines; no more than the input is
 // used.
-pub(crate) fn mark(
-    calls: u64,
-    input: &[u8],
-    output: &mut [u8],
-    rows: &mut [u64],
-    orders: &mut [u8],
-    mailboxes: &mut [u8],
-    buffer: &mut [u8],
-) -> Marked
-    requires { Clocked rows.old }
+pub(crate) fn mark(calls: u64, input: &[u8], output: &mut [u8], memory: &mut Memory) -> Marked
+    requires { Clocked memory.old.rows }
     ensures { (print_of result input.now
-        (lent rows.new orders.new mailboxes.new)
-        buffer.new output.new
+        (lent_of memory.new)
+        memory.new.buffer output.new
         ≡ marked_all
         (marker_state calls input.now
-        (lent rows.old orders.old mailboxes.old)
-        buffer.old)
+        (lent_of memory.old)
+        memory.old.buffer)
         output.old)
         × (result.used ≤ length input.now)
-        × Clocked rows.new }
+        × Clocked memory.new.rows }
 {
     let mut m = Marked {
         calls,
         used: 0,
         written: 0,
     };
-    let mut left = output.len() / LINE_ROOM;
-    while is_ready(input, left, m.calls, m.used) {
-        m = mark_call(m, input, output, rows, orders, mailboxes, buffer);
-        left -= 1;
+    for _ in 0..output.len() / LINE_ROOM {
+        if !is_ready(input, m.calls, m.used) {
+            break;
+        }
+        m = mark_call(m, input, output, memory);
     }
     m
 }

@@ -31,16 +31,12 @@ pub(crate) fn frame_in(s: &[u8]) -> &[u8]
     requires { head_bytes ≤ length s.now }
     ensures { result.now ≡ frame_in s.now }
 {
-    let size = size_of(s);
-    front(&s[HEAD_BYTES..], size)
+    front(&s[HEAD_BYTES..], size_of(s))
 }
 
 // Whether the record at the front is not cut short.
 pub(crate) fn is_whole(s: &[u8]) -> bool
     ensures { result ≡ is_whole s.now }
 {
-    if s.len() < HEAD_BYTES {
-        return false;
-    }
-    size_of(s) <= s.len() - HEAD_BYTES
+    s.len() >= HEAD_BYTES && size_of(s) <= s.len() - HEAD_BYTES
 }

@@ -1,13 +1,14 @@
 // The marker's session: records from standard input to its end, the print to standard output.
-ghost use Rattle.std.specs.Prelude.{◌≡◌, ◌-◌, ◌≤◌, ◌<◌, length, take, drop};
+ghost use Rattle.std.specs.Prelude.{◌≡◌, ◌-◌, ◌≤◌, length, take, drop};
 ghost use Rattle.octets.specs.Bytes.{overwrite};
 ghost use Rattle.bank_rows.specs.Layout.{state_size};
-ghost use Rattle.bank_steps.specs.Lent.{lent};
+ghost use Rattle.marker_session.specs.Memory.{lent_of};
 ghost use Rattle.marker_session.specs.Marking.{Clocked};
 ghost use Rattle.marker_session.specs.Session.{reading_of, HasRoom, ReadFrom, started_with, SessionOf};
 
 use crate::line::{LINE_ROOM, header};
 use crate::mark::mark;
+use crate::memory::Memory;
 use crate::record::HEAD_BYTES;
 use bank_rows::layout::STATE_SIZE;
 use bank_state::limits::{REPLY_ROOM, STORE_BYTES};
@@ -21,12 +22,11 @@ const INPUT_BYTES: usize = HEAD_BYTES + 65535;
 // The output: a line for each record that the input can hold.
 const OUTPUT_BYTES: usize = INPUT_BYTES / HEAD_BYTES * LINE_ROOM;
 
-// Between two reads: the calls so far, the bytes held of a record cut short, the reads that may follow.
+// Between two reads: the calls so far, the bytes held of a record cut short.
 #[derive(Clone, Copy)]
 struct Reading {
     pub calls: u64,
     pub held: usize,
-    pub reads: u64,
 }
 
 // What a session leaves: the bank's rows, and the number of its calls.
@@ -38,18 +38,12 @@ pub struct SessionEnd {
 
 // Moves the bytes from a place up to an end to the front, and counts them.
 fn keep(input: &mut [u8], from: usize, end: usize) -> usize
-    requires { end ≤ length input.old }
+    requires { (from ≤ end) × (end ≤ length input.old) }
     ensures { (input.new ≡ overwrite input.old 0 (drop from (take end input.old)))
         × (result ≡ length (drop from (take end input.old))) }
 {
-    let mut n = 0;
-    let mut i = from;
-    while i < end {
-        input[n] = input[i];
-        n += 1;
-        i += 1;
-    }
-    n
+    input.copy_within(from..end, 0);
+    end - from
 }
 
 // Reads into the input behind the bytes held, and counts what came: 0 at the end, and where the input is full.
@@ -59,96 +53,61 @@ fn read_in(rt: &impl Input, input: &mut [u8], held: usize) -> usize
     if input.len() <= held {
         return 0;
     }
-    match rt.reader().read(&mut input[held..]) {
-        Ok(n) => n,
-        Err(_) => 0,
-    }
+    rt.reader().read(&mut input[held..]).unwrap_or(0)
 }
 
-// Writes the lines of a read, and counts down the reads that may follow: none where nothing came or could be written.
-fn write_lines(rt: &impl Print, output: &[u8], written: usize, came: usize, reads: u64) -> u64
-    requires { 0 < reads }
-    ensures { result < reads }
-{
-    if came == 0 {
-        return 0;
-    }
-    if rt.write_all(front(output, written)).is_ok() {
-        return reads - 1;
-    }
-    0
-}
-
-// One read: the records that are whole then are marked, and the rest is kept for the next.
+// One read: the records that are whole then are marked, and the rest is kept for the next. Tells whether another may
+// follow: none where nothing came or no line could be written.
 fn read_on(
     rt: &(impl Input + Print),
-    t: Reading,
+    t: &mut Reading,
     input: &mut [u8],
     output: &mut [u8],
-    rows: &mut [u64],
-    orders: &mut [u8],
-    mailboxes: &mut [u8],
-    buffer: &mut [u8],
-) -> Reading
-    requires { (0 < t.reads) × (t.held ≤ length input.old) × HasRoom input.old output.old × Clocked rows.old }
-    ensures { (result.reads < t.reads)
-        × Clocked rows.new
+    memory: &mut Memory,
+) -> bool
+    requires { (t.old.held ≤ length input.old) × HasRoom input.old output.old × Clocked memory.old.rows }
+    ensures { Clocked memory.new.rows
         × ReadFrom
-        (reading_of t input.old
-        (lent rows.old orders.old mailboxes.old)
-        buffer.old)
-        result input.new
-        (lent rows.new orders.new mailboxes.new)
-        buffer.new }
+        (reading_of t.old input.old
+        (lent_of memory.old)
+        memory.old.buffer)
+        t.new input.new
+        (lent_of memory.new)
+        memory.new.buffer }
 {
-    let held = t.held;
-    let n = read_in(rt, input, held);
-    let end = held + n;
-    let m = mark(
-        t.calls,
-        &input[..end],
-        output,
-        rows,
-        orders,
-        mailboxes,
-        buffer,
-    );
-    let reads = write_lines(rt, output, m.written, n, t.reads);
-    let left = keep(input, m.used, end);
-    Reading {
+    let n = read_in(rt, input, t.held);
+    let end = t.held + n;
+    let m = mark(t.calls, &input[..end], output, memory);
+    *t = Reading {
         calls: m.calls,
-        held: left,
-        reads,
-    }
+        held: keep(input, m.used, end),
+    };
+    n != 0 && rt.write_all(front(output, m.written)).is_ok()
 }
 
-// Reads on to the end of the input. Nothing says that an input ends, so the reads are counted down from a number that
-// no run uses up.
+// Reads on to the end of the input. Nothing says that an input ends, so there are no more reads than a number that no
+// run uses up.
 fn read_all(
     rt: &(impl Input + Print),
     input: &mut [u8],
     output: &mut [u8],
-    rows: &mut [u64],
-    orders: &mut [u8],
-    mailboxes: &mut [u8],
-    buffer: &mut [u8],
+    memory: &mut Memory,
 ) -> Reading
-    requires { HasRoom input.old output.old × Clocked rows.old }
+    requires { HasRoom input.old output.old × Clocked memory.old.rows }
     ensures { ReadFrom
         (started_with
-        (lent rows.old orders.old mailboxes.old)
-        buffer.old)
+        (lent_of memory.old)
+        memory.old.buffer)
         result input.new
-        (lent rows.new orders.new mailboxes.new)
-        buffer.new }
+        (lent_of memory.new)
+        memory.new.buffer
+        × Clocked memory.new.rows }
 {
-    let mut t = Reading {
-        calls: 0,
-        held: 0,
-        reads: u64::MAX,
-    };
-    while 0 < t.reads {
-        t = read_on(rt, t, input, output, rows, orders, mailboxes, buffer);
+    let mut t = Reading { calls: 0, held: 0 };
+    for _ in 0..u64::MAX {
+        if !read_on(rt, &mut t, input, output, memory) {
+            break;
+        }
     }
     t
 }
@@ -167,28 +126,26 @@ fn print_book(rt: &impl Print, rows: &[u64], output: &mut [u8])
     let _ = rt.write_all(front(output, n));
 }
 
-// Reads all records, and prints, in lent memory.
+// Reads all records, and prints, in lent memory. Apart from `session`, which has the arrays: here they are slices and a
+// reference, and no goal writes them out.
 fn print_all(
     rt: &(impl Input + Print),
     input: &mut [u8],
     output: &mut [u8],
-    rows: &mut [u64],
-    orders: &mut [u8],
-    mailboxes: &mut [u8],
-    buffer: &mut [u8],
+    memory: &mut Memory,
 ) -> Reading
-    requires { HasRoom input.old output.old × Clocked rows.old }
+    requires { HasRoom input.old output.old × Clocked memory.old.rows }
     ensures { ReadFrom
         (started_with
-        (lent rows.old orders.old mailboxes.old)
-        buffer.old)
+        (lent_of memory.old)
+        memory.old.buffer)
         result input.new
-        (lent rows.new orders.new mailboxes.new)
-        buffer.new }
+        (lent_of memory.new)
+        memory.new.buffer }
 {
     print_header(rt, output);
-    let t = read_all(rt, input, output, rows, orders, mailboxes, buffer);
-    print_book(rt, rows, output);
+    let t = read_all(rt, input, output, memory);
+    print_book(rt, &memory.rows, output);
     t
 }
 
@@ -198,21 +155,15 @@ pub fn session(rt: &(impl Input + Print)) -> SessionEnd
 {
     let mut input = [0u8; INPUT_BYTES];
     let mut output = [0u8; OUTPUT_BYTES];
-    let mut rows = [0u64; STATE_SIZE];
-    let mut orders = [0u8; STORE_BYTES];
-    let mut mailboxes = [0u8; STORE_BYTES];
-    let mut buffer = [0u8; REPLY_ROOM];
-    let t = print_all(
-        rt,
-        &mut input,
-        &mut output,
-        &mut rows,
-        &mut orders,
-        &mut mailboxes,
-        &mut buffer,
-    );
+    let mut memory = Memory {
+        rows: [0; STATE_SIZE],
+        orders: [0; STORE_BYTES],
+        mailboxes: [0; STORE_BYTES],
+        buffer: [0; REPLY_ROOM],
+    };
+    let t = print_all(rt, &mut input, &mut output, &mut memory);
     SessionEnd {
-        rows,
+        rows: memory.rows,
         calls: t.calls,
     }
 }

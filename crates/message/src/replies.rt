@@ -29,11 +29,7 @@ fn with_code(code: ReturnCode, fields: Fields) -> Fields
 pub fn upload_opened(exchange: u64, transaction: Bits128, order_number: u64) -> Fields
     ensures { result ≡ upload_opened exchange transaction order_number }
 {
-    with_code(
-        ReturnCode::Ok,
-        reply_of(INITIALISATION_PHASE, exchange).with_wide(TRANSACTION, transaction),
-    )
-    .with(ORDER_NUMBER, order_number)
+    chosen_opened(exchange, transaction).with(ORDER_NUMBER, order_number)
 }
 
 // Opened with the order number that the request brought, of edition 2.4: 01 03 08 0D.

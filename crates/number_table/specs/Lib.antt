@@ -1,2 +1,3 @@
 -- The numbers of documents 01 and 02, in one table.
 pub mod Table
+pub mod Numbers

@@ -1,4 +1,7 @@
-// The numbers of documents 01 and 02, a row each. Each has the same name in specs/Table.antt, beside the papers' words.
+// The numbers of documents 01 and 02, a row each, and the refusals that have one number alone. Each number has the same
+// name in specs/Table.antt, beside the papers' words.
+ghost use Rattle.std.specs.Prelude.{◌≡◌};
+ghost use Rattle.number_table.specs.Table.{wrong_length, too_late};
 
 // The host.
 pub const WRONG_LENGTH: u64 = 1;
@@ -24,3 +27,27 @@ pub const NOT_ADMITTED: u64 = 9;
 pub const TOO_LATE: u64 = 10;
 
 pub const SEED_ZERO: u64 = 11;
+
+// Number 1, where a call is refused with no other.
+#[derive(Clone, Copy, Debug, PartialEq, Eq)]
+pub struct WrongLength;
+
+impl From<WrongLength> for u64 {
+    ghost from_gives = { λ _ n. n ≡ wrong_length };
+
+    fn from(_: WrongLength) -> u64 {
+        WRONG_LENGTH
+    }
+}
+
+// Number 10, where a call is refused with no other.
+#[derive(Clone, Copy, Debug, PartialEq, Eq)]
+pub struct TooLate;
+
+impl From<TooLate> for u64 {
+    ghost from_gives = { λ _ n. n ≡ too_late };
+
+    fn from(_: TooLate) -> u64 {
+        TOO_LATE
+    }
+}

@@ -15,10 +15,9 @@ use native.Mathlib.Nat.{
   div-add-mod',
   div-lt_iff_lt-mul,
   zero-lt-suc,
+  div-div-eq-div-mul,
   pow-suc,
   mod-lt,
-  le_of_lt,
-  le-div_iff_mul-le,
 }
 use native.Mathlib.Numerals.{add-one}
 use native.Mathlib.Omega.{arith}
@@ -54,6 +53,7 @@ use lib.Dec.{ltb}
 use lib.Pow.{pow_mono, pow-add}
 use lib.Arith.{digits_div, digits_mod, digits_lt}
 use borrow.Author.Tests.{ltb-true, ltb-false}
+use Rattle.std.specs.Int.{byte_at, bytes_high_first}
 use Rattle.octets.specs.Bytes.{Bytes, number_from, number, bytes_of, field_bytes, overwrite}
 
 -- ---- the number of some bytes
@@ -161,6 +161,29 @@ last-bytes w h l s q k m =
     take_rest s (16 - w) ∙ ap (drop (16 - w)) (q ∙ sym (bytes_of-append 8 8 h l m))
     ∙ ap (λ (n : ℕ). drop (16 - w) (bytes_of n (h * 2 ^ 64 + l))) (sym e) ∙ drop-bytes_of (16 - w) w (h * 2 ^ 64 + l)
 
+byte_at-suc : (k n : ℕ) → byte_at (suc k) n ≡ byte_at k (n / 256)
+byte_at-suc zero n = refl
+byte_at-suc (suc k) n =
+    let e : 256 ^ suc (suc k) ≡ 256 * 256 ^ suc k = pow-suc 256 (suc k) ∙ mul_comm (256 ^ suc k) 256 in
+    ap (λ (d : ℕ). n / d % 256) e ∙ ap (λ (q : ℕ). q % 256) (sym (div-div-eq-div-mul n 256 (256 ^ suc k)))
+
+bytes_high_first-suc : (w x : ℕ) → bytes_high_first (suc w) x ≡ bytes_high_first w (x / 256) ++ (x % 256 ∷ [])
+bytes_high_first-suc zero x = refl
+bytes_high_first-suc (suc w) x =
+    ap (λ (b : ℕ). b ∷ bytes_high_first (suc w) x) (byte_at-suc w x)
+    ∙ ap (λ (l : List ℕ). byte_at w (x / 256) ∷ l) (bytes_high_first-suc w x)
+
+-- what `to_be_bytes` gives
+bytes_of-high_first : (w x : ℕ) → bytes_high_first w x ≡ bytes_of w x
+unfolding bytes_of
+bytes_of-high_first zero x = refl
+bytes_of-high_first (suc w) x =
+    bytes_high_first-suc w x ∙ ap (λ (l : List ℕ). l ++ (x % 256 ∷ [])) (bytes_of-high_first w (x / 256))
+
+-- the sixteen bytes of a number are those of its high and of its low 64 bits
+pub bytes_of-halves : (h l : ℕ) → l < 2 ^ 64 → bytes_high_first 16 (h * 2 ^ 64 + l) ≡ bytes_of 8 h ++ bytes_of 8 l
+bytes_of-halves h l m = bytes_of-high_first 16 (h * 2 ^ 64 + l) ∙ bytes_of-append 8 8 h l m
+
 pub number-bytes_of : (w x : ℕ) → x < 256 ^ w → number (bytes_of w x) ≡ x
 unfolding bytes_of
 number-bytes_of zero x h = number-nil ∙ omega arith
@@ -174,14 +197,6 @@ number_lt zero x = omega (arith, number-nil)
 number_lt (suc w) x =
     rw (number-snoc (bytes_of w (x / 256)) (x % 256), pow-suc 256 w)
     (digits_lt (number_lt w (x / 256)) (mod-lt x (zero-lt-suc 255)))
-
--- k pieces of a size fit into n bytes where k is no more than their quotient
-module _ (n k size : ℕ) (h : 0 < size) where
-  pub pieces-fit : k ≤ n / size → k * size ≤ n
-  pieces-fit e = (le-div_iff_mul-le h).0 e
-
-  pub pieces-over : n / size < k → n ≤ k * size
-  pieces-over e = le_of_lt ((div-lt_iff_lt-mul h).0 e)
 
 -- ---- lists of bytes
 

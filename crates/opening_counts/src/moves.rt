@@ -1,7 +1,7 @@
 // What a call moves: its clock drops first, then its verdict does what it names. Nothing falls below 0.
 ghost use Rattle.std.specs.Prelude.{◌≡◌, true, ◌+◌, ◌-◌, ◌^◌, ◌≤◌, ◌<◌};
 ghost use Rattle.opening_counts.specs.Counts.{most_moved, can_grow, Room, with_dropped, with_opened, with_booked, with_fetched};
-ghost use Rattle.opening_counts.specs.Counts.{with_skipped, with_cancelled, upload_counts, download_counts, action_counts};
+ghost use Rattle.opening_counts.specs.Counts.{with_skipped, with_cancelled, upload_counts, download_counts};
 ghost use Rattle.opening_counts.specs.Counts.{verdict_counts, counts_after};
 
 use crate::seven::Counts;
@@ -11,12 +11,10 @@ use bank_verdicts::verdict::{Action, DownloadAction, UploadAction, Verdict};
 pub fn less(x: u64, y: u64) -> u64
     ensures { result ≡ x - y }
 {
-    if x < y {
-        return 0;
-    }
-    x - y
+    x.saturating_sub(y)
 }
 
+// A function for each event: they move different counts, and no name of a field can be passed.
 // So many dropped.
 fn with_dropped(n: u64, c: Counts) -> Counts
     requires { c.dropped + n < 2 ^ 64 }
@@ -24,12 +22,8 @@ fn with_dropped(n: u64, c: Counts) -> Counts
 {
     Counts {
         pending: less(c.pending, n),
-        booked: c.booked,
-        fetched: c.fetched,
-        skipped: c.skipped,
-        ended: c.ended,
-        cancelled: c.cancelled,
         dropped: c.dropped + n,
+        ..c
     }
 }
 
@@ -40,12 +34,7 @@ fn with_opened(c: Counts) -> Counts
 {
     Counts {
         pending: c.pending + 1,
-        booked: c.booked,
-        fetched: c.fetched,
-        skipped: c.skipped,
-        ended: c.ended,
-        cancelled: c.cancelled,
-        dropped: c.dropped,
+        ..c
     }
 }
 
@@ -57,11 +46,7 @@ fn with_booked(c: Counts) -> Counts
     Counts {
         pending: less(c.pending, 1),
         booked: c.booked + 1,
-        fetched: c.fetched,
-        skipped: c.skipped,
-        ended: c.ended,
-        cancelled: c.cancelled,
-        dropped: c.dropped,
+        ..c
     }
 }
 
@@ -72,12 +57,9 @@ fn with_fetched(others: u64, c: Counts) -> Counts
 {
     Counts {
         pending: less(less(c.pending, 1), others),
-        booked: c.booked,
         fetched: c.fetched + 1,
-        skipped: c.skipped,
         ended: c.ended + others,
-        cancelled: c.cancelled,
-        dropped: c.dropped,
+        ..c
     }
 }
 
@@ -88,12 +70,8 @@ fn with_skipped(c: Counts) -> Counts
 {
     Counts {
         pending: less(c.pending, 1),
-        booked: c.booked,
-        fetched: c.fetched,
         skipped: c.skipped + 1,
-        ended: c.ended,
-        cancelled: c.cancelled,
-        dropped: c.dropped,
+        ..c
     }
 }
 
@@ -104,12 +82,8 @@ fn with_cancelled(c: Counts) -> Counts
 {
     Counts {
         pending: less(c.pending, 1),
-        booked: c.booked,
-        fetched: c.fetched,
-        skipped: c.skipped,
-        ended: c.ended,
         cancelled: c.cancelled + 1,
-        dropped: c.dropped,
+        ..c
     }
 }
 
@@ -119,9 +93,8 @@ fn upload_counts(action: UploadAction, others: u64, c: Counts) -> Counts
 {
     match action {
         UploadAction::Opened(_) => with_opened(c),
-        UploadAction::Took => c,
+        UploadAction::Took | UploadAction::Point(_) => c,
         UploadAction::TookLast => with_booked(c),
-        UploadAction::Point(_) => c,
         UploadAction::Cancelled(_) => with_cancelled(c),
     }
 }
@@ -132,22 +105,10 @@ fn download_counts(action: DownloadAction, others: u64, c: Counts) -> Counts
 {
     match action {
         DownloadAction::Opened(_) => with_opened(c),
-        DownloadAction::Delivered(_) => c,
-        DownloadAction::SentAgain(_) => c,
-        DownloadAction::Point(_) => c,
+        DownloadAction::Delivered(_) | DownloadAction::SentAgain(_) | DownloadAction::Point(_) => c,
         DownloadAction::Cancelled => with_cancelled(c),
         DownloadAction::Confirmed => with_fetched(others, c),
         DownloadAction::Declined => with_skipped(c),
-    }
-}
-
-fn action_counts(action: Action, others: u64, c: Counts) -> Counts
-    requires { Room others c }
-    ensures { result ≡ action_counts action others c }
-{
-    match action {
-        Action::Upload(a) => upload_counts(a, others, c),
-        Action::Download(a) => download_counts(a, others, c),
     }
 }
 
@@ -157,10 +118,9 @@ fn verdict_counts(verdict: Verdict, others: u64, c: Counts) -> Counts
     ensures { result ≡ verdict_counts verdict others c }
 {
     match verdict {
-        Verdict::Unreadable => c,
-        Verdict::Refused(_) => c,
-        Verdict::Of(_, action) => action_counts(action, others, c),
-        Verdict::Signed(_, _) => c,
+        Verdict::Unreadable | Verdict::Refused(_) | Verdict::Signed(_, _) => c,
+        Verdict::Of(_, Action::Upload(action)) => upload_counts(action, others, c),
+        Verdict::Of(_, Action::Download(action)) => download_counts(action, others, c),
     }
 }
 
@@ -170,6 +130,5 @@ pub fn counts_after(verdict: Verdict, gone: u64, others: u64, c: Counts) -> Coun
     requires { (can_grow c ≡ true) × (gone ≤ most_moved) × (others ≤ most_moved) }
     ensures { result ≡ counts_after verdict gone others c }
 {
-    let left = with_dropped(gone, c);
-    verdict_counts(verdict, others, left)
+    verdict_counts(verdict, others, with_dropped(gone, c))
 }

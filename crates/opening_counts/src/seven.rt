@@ -22,37 +22,24 @@ pub const COUNT_SIZE: usize = 7;
 // The most that one call moves: all uploads and all downloads that can be open.
 pub const MOST_MOVED: usize = PLACE_COUNT + PLACE_COUNT;
 
-// From here on 64 bits do not hold a count and so many more.
-const COUNT_LIMIT: u64 = 18446744073709551600;
-
 // Whether 64 bits hold a count and what one call adds.
+#[tactic(auto, unfolding(crate::specs::Counts::fits))]
 fn fits(n: u64) -> bool
     ensures { result ≡ fits n }
 {
-    n < COUNT_LIMIT
+    n.checked_add(MOST_MOVED as u64).is_some()
 }
 
 // Whether each count can grow by what one call adds.
+#[tactic(auto, unfolding(crate::specs::Counts::can_grow))]
 pub fn can_grow(c: Counts) -> bool
     ensures { result ≡ can_grow c }
 {
-    if !fits(c.pending) {
-        return false;
-    }
-    if !fits(c.booked) {
-        return false;
-    }
-    if !fits(c.fetched) {
-        return false;
-    }
-    if !fits(c.skipped) {
-        return false;
-    }
-    if !fits(c.ended) {
-        return false;
-    }
-    if !fits(c.cancelled) {
-        return false;
-    }
-    fits(c.dropped)
+    fits(c.pending)
+        && fits(c.booked)
+        && fits(c.fetched)
+        && fits(c.skipped)
+        && fits(c.ended)
+        && fits(c.cancelled)
+        && fits(c.dropped)
 }

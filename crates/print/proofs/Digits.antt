@@ -1,10 +1,10 @@
 -- Laws of numbers in digits, and of bytes written from the last to the first. Assumes nothing.
-use Prim.Native.Nat.{ℕ, zero, suc, ◌+◌, ◌-◌, ◌/◌, ◌%◌, ◌≤◌, ◌<◌}
+use Prim.Native.Nat.{ℕ, zero, suc, ◌+◌, ◌*◌, ◌-◌, ◌/◌, ◌%◌, ◌^◌, ◌≤◌, ◌<◌, max}
 use mathlib.Core.Bool.{Bool, true, false, cond}
 use mathlib.Core.List.{List, [], ◌∷◌, ◌++◌}
 use mathlib.Core.Path.{◌≡◌, refl, sym, ap, ◌∙◌}
 use native.Mathlib.Nat.{add-zero}
-use native.Mathlib.Numerals.{add-one}
+use native.Mathlib.Numerals.{add-one, unary_clauses}
 use native.Mathlib.Omega.{arith}
 use lib.Dec.{ltb}
 use lib.ListN.{length, take, drop, set, length-append}
@@ -29,19 +29,32 @@ use Rattle.print.specs.Text.{
 
 -- ---- how many digits
 
-pub count-step : (n x : ℕ) → n < max_digits → 10 ≤ x
-    → digit_count_to (max_digits - n) x ≡ suc (digit_count_to (max_digits - (n + 1)) (x / 10))
-unfolding digit_count_to
-count-step n x h k = let e : max_digits - n ≡ suc (max_digits - (n + 1)) = omega arith in rw (e, le-ltb x 10 k)
+pow-pos : (n : ℕ) → 1 ≤ 10 ^ n
+pow-pos zero = omega arith
+pow-pos (suc n) = let p : 10 ^ suc n ≡ 10 ^ n * 10 = simp unary_clauses (omega arith) in omega (arith, p, pow-pos n)
 
-pub count-last : (n x : ℕ) → max_digits ≤ n → digit_count_to (max_digits - n) x ≡ 1
+-- a number below ten to the power n + 1, and from ten to the power n on
+count-log : (m n x : ℕ) → n ≤ m → x < 10 * 10 ^ n → (0 < n → 10 ^ n ≤ x) → digit_count_to m x ≡ n + 1
 unfolding digit_count_to
-count-last n x h = let e : max_digits - n ≡ 0 = omega arith in rw e
+count-log zero zero x h k l = refl
+count-log zero (suc n) x h k l = absurd (omega arith)
+count-log (suc m) zero x h k l = rw (lt-ltb x 10 (omega arith))
+count-log (suc m) (suc n) x h k l =
+    let p : 10 ^ suc n ≡ 10 ^ n * 10 = simp unary_clauses (omega arith) in
+    let q : 10 ^ n * 10 ≤ x = rw p at (l (omega arith)) in
+    let b : x < 10 * (10 ^ n * 10) = rw p at k in
+    let one : 1 ≤ 10 ^ n = pow-pos n in
+    rw (le-ltb x 10 (omega arith))
+    (omega (arith, count-log m n (x / 10) (omega arith) (omega arith) (λ _. omega arith)))
 
-pub count-end : (n x : ℕ) → x < 10 → digit_count_to n x ≡ 1
-unfolding digit_count_to
-count-end zero x h = refl
-count-end (suc n) x h = rw (lt-ltb x 10 h)
+pow-ten : (n : ℕ) → 0 < n → 10 ≤ 10 ^ n
+pow-ten zero h = absurd (omega arith)
+pow-ten (suc n) h = let p : 10 ^ suc n ≡ 10 ^ n * 10 = simp unary_clauses (omega arith) in omega (arith, p, pow-pos n)
+
+pub digit_count-log : (n x y : ℕ) → y ≡ max x 1 → n < 20 → 10 ^ n ≤ y → y < 10 * 10 ^ n → digit_count x ≡ n + 1
+unfolding digit_count
+digit_count-log n x y e h k l =
+    count-log 19 n x (omega arith) (omega arith) (λ p. let t = pow-ten n p in omega arith)
 
 most-of : (b : Bool) (n k : ℕ) → k ≤ suc n → cond b 1 (suc k) ≤ suc (suc n)
 most-of true n k h = omega arith

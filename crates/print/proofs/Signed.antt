@@ -1,16 +1,13 @@
 -- A signed number's sign and magnitude, and how long it is at most. Assumes nothing.
-use Prim.Native.Nat.{ℕ, suc, ◌+◌, ◌≤◌}
+use Prim.Native.Nat.{ℕ, ◌≤◌}
 use mathlib.Core.Bool.{true, false}
 use mathlib.Core.List.{List, [], ◌∷◌}
 use mathlib.Core.Path.{◌≡◌, refl}
 use native.Mathlib.Omega.{arith}
-use lib.Dec.{T}
-use lib.IntN.{ℤ, pos, negsuc, nat_abs, ◌-ℤ◌}
+use lib.IntN.{ℤ, pos, negsuc, nat_abs}
 use lib.ListN.{length, length-append}
-use lib.Signed.{lt_z, non_neg}
-use mir.Syntax.{w64}
-use mir.Val.{SFits}
-use borrow.Author.Tests.{ltb-true, le-ltb}
+use lib.Signed.{lt_z}
+use borrow.Author.Tests.{ltb-true}
 use Rattle.octets.specs.Texts.{ascii}
 use Rattle.print.specs.Text.{Put, digits_in, digit_count_to, digit_count, decimal}
 use Rattle.print.specs.Text.{hyphen, sign_of, signed_decimal, signed_room}
@@ -26,22 +23,6 @@ sign_below (negsuc n) h = refl
 pub sign_above : (x : ℤ) → lt_z x (pos 0) ≡ false → sign_of x ≡ []
 sign_above (pos n) h = refl
 sign_above (negsuc n) h = let z : ◌≡◌ {A = ℕ} 0 1 = cc in absurd (omega arith)
-
-pub above_zero : (x : ℤ) → lt_z x (pos 0) ≡ false → T (non_neg x)
-above_zero (pos n) h = tt
-above_zero (negsuc n) h = let z : ◌≡◌ {A = ℕ} 0 1 = cc in absurd (omega arith)
-
--- -1 less a negative number: it fits, and is one below the magnitude
-pub record Turned (x y : ℤ) : Type 0 where
-  pub fits : SFits w64 y
-  pub above : T (non_neg y)
-  pub next : nat_abs y + 1 ≡ nat_abs x
-
-pub turned : (x : ℤ) → lt_z x (pos 0) ≡ true → SFits w64 x → Turned x (negsuc 0 -ℤ x)
-turned (pos n) h f = absurd (omega (arith, ltb-true n 0 h))
-turned (negsuc n) h f =
-    rw (le-ltb (suc n) 1 (omega arith))
-    (record { fits = record { sfits = omega (arith, f.sfits) }; above = tt; next = omega arith })
 
 -- the sign, and the magnitude behind it
 pub put_both : {x y z : ℤ} {old mid new : List ℕ} {at between behind m : ℕ} → y ≡ x → z ≡ x → m ≡ nat_abs z

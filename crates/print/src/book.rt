@@ -40,9 +40,10 @@ fn put_released(output: &mut [u8], at: usize, released: bool) -> usize
     ensures { Put output.old at (released_text released) output.new result }
 {
     if released {
-        return put_text(output, at, b"yes");
+        put_text(output, at, b"yes")
+    } else {
+        put_text(output, at, b"no")
     }
-    put_text(output, at, b"no")
 }
 
 // Writes how many signers an order has, whether they release it, and the byte after both. The set is the low byte.
@@ -74,11 +75,11 @@ fn put_order(output: &mut [u8], at: usize, p: Place) -> usize
     requires { at + order_columns_room ≤ length output.old }
     ensures { Put output.old at (order_line p) output.new result }
 {
-    let used = p.used;
-    if !is_booked(used) {
-        return at;
+    if is_booked(p.used) {
+        put_order_columns(output, at, p, p.length, b'\n')
+    } else {
+        at
     }
-    put_order_columns(output, at, p, p.length, b'\n')
 }
 
 // Writes the lines of all places.
@@ -88,10 +89,8 @@ fn put_orders(output: &mut [u8], at: usize, rows: &[u64]) -> usize
         output.new result }
 {
     let mut end = at;
-    let mut i = 0;
-    while i < PLACE_COUNT {
+    for i in 0..PLACE_COUNT {
         end = put_order(output, end, place_at(rows, i));
-        i += 1;
     }
     end
 }

@@ -9,7 +9,8 @@ use opening_counts::seven::Counts;
 // The most bytes of the seven counts.
 pub const COUNTS_ROOM: usize = 6 * 21 + 20;
 
-// Writes the seven counts in document 02's order, a space between two of them.
+// Writes the seven counts in document 02's order, a space between two of them. One line for each and no loop, since
+// `counts_text` names each and the last has no space.
 pub fn put_counts(output: &mut [u8], at: usize, c: Counts) -> usize
     requires { at + counts_room ≤ length output.old }
     ensures { Put output.old at (counts_text c) output.new result }

@@ -1,5 +1,6 @@
-// Numbers in digits and texts, written into a lent output from a place on.
-ghost use Rattle.std.specs.Prelude.{◌≡◌, [], ◌∷◌, ◌+◌, ◌≤◌, ◌<◌, nat_abs, length};
+// Numbers in digits and texts, written into a lent output from a place on. The output and the place are two parameters,
+// and no `write!` stands for them, since `Put` in each contract says which bytes stand where, and which do not change.
+ghost use Rattle.std.specs.Prelude.{◌≡◌, [], ◌∷◌, ◌+◌, ◌≤◌, ◌<◌, length};
 ghost use Rattle.print.specs.Text.{Put, digits_in, max_digits, digit_count, decimal};
 ghost use Rattle.print.specs.Text.{sign_of, signed_decimal, signed_room};
 ghost use Rattle.print.specs.Text.{code_digits, order_characters, code_text, order_number_text};
@@ -7,9 +8,6 @@ ghost use Rattle.print.specs.Text.{type_column, type_room};
 ghost use Rattle.print.specs.Text.{column, column_room};
 
 use octets::bytes::copy;
-
-// The most decimal digits of a number.
-const MAX_DIGITS: usize = 20;
 
 // The digits of a return code, and the characters of an order number and of an order type.
 pub const CODE_DIGITS: usize = 6;
@@ -22,13 +20,7 @@ const TYPE_CHARACTERS: usize = 3;
 pub fn digit_count(x: u64) -> usize
     ensures { result ≡ digit_count x }
 {
-    let mut n = 1;
-    let mut rest = x;
-    while n < MAX_DIGITS && 10 <= rest {
-        rest = rest / 10;
-        n += 1;
-    }
-    n
+    x.max(1).ilog10() as usize + 1
 }
 
 // Writes the last w digits of x in a base from a place on, and gives the place behind them.
@@ -36,12 +28,10 @@ pub fn put_digits(output: &mut [u8], at: usize, base: u64, first: u64, w: usize,
     requires { (at + w ≤ length output.old) × (0 < base) × (first + base ≤ 256) }
     ensures { Put output.old at (digits_in base first w x) output.new result }
 {
-    let mut i = w;
     let mut rest = x;
-    while 0 < i {
-        i -= 1;
+    for i in (0..w).rev() {
         output[at + i] = (first + rest % base) as u8;
-        rest = rest / base;
+        rest /= base;
     }
     at + w
 }
@@ -54,25 +44,16 @@ pub fn put_decimal(output: &mut [u8], at: usize, x: u64) -> usize
     put_digits(output, at, 10, 48, digit_count(x), x)
 }
 
-// The magnitude of a signed number, of the least one too.
-fn magnitude(x: i64) -> u64
-    ensures { result ≡ nat_abs x }
-{
-    if x < 0 {
-        return (-1 - x) as u64 + 1;
-    }
-    x as u64
-}
-
 // Writes a hyphen before a negative number, and nothing before another.
 fn put_sign(output: &mut [u8], at: usize, x: i64) -> usize
     requires { at < length output.old }
     ensures { Put output.old at (sign_of x) output.new result }
 {
     if x < 0 {
-        return put_byte(output, at, b'-');
+        put_byte(output, at, b'-')
+    } else {
+        at
     }
-    at
 }
 
 // Writes a signed number in decimal.
@@ -81,7 +62,7 @@ pub fn put_signed(output: &mut [u8], at: usize, x: i64) -> usize
     ensures { Put output.old at (signed_decimal x) output.new result }
 {
     let a = put_sign(output, at, x);
-    put_decimal(output, a, magnitude(x))
+    put_decimal(output, a, x.unsigned_abs())
 }
 
 // Writes the digits of a return code, given as the number of field 0D.

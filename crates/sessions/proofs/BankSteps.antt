@@ -1,5 +1,8 @@
 -- `F` and `M`: the session keeps what the call on the bank leaves, and the course's bank and journal are the same; no run
 -- changes.
+use Rattle.bank.specs.declared.mailbox.FileRefusal.{FileRefusal}
+use Rattle.number_table.specs.declared.table.WrongLength.{WrongLength}
+use Rattle.std.specs.Prelude.{Err, Ok, Result}
 use Prim.Native.Nat.{ℕ}
 use mathlib.Core.Bool.{cond}
 use mathlib.Core.List.{List, []}
@@ -13,10 +16,7 @@ use Rattle.message.specs.Verdicts.{decide}
 use Rattle.bank_state.specs.Limits.{id_bytes}
 use Rattle.bank_state.specs.State.{Bank, BankState, bank_state}
 use Rattle.bank_admitted.specs.Session.{Brought}
-use Rattle.bank.specs.declared.call.FrameAnswer.{FrameAnswer}
-use Rattle.bank.specs.declared.call.FrameAnswer.TheVariants as frame
-use Rattle.bank.specs.declared.mailbox.FileAnswer.{FileAnswer}
-use Rattle.bank.specs.declared.mailbox.FileAnswer.TheVariants as put
+use Rattle.bank.specs.declared.mailbox.FileRefusal.TheVariants as put
 use Rattle.bank.specs.Call.{FrameInput, frame_input, frame_number, frame_call}
 use Rattle.bank.specs.Mailbox.{FileCall, file_number, file_refusals, carry_out_file, file_call}
 use Rattle.bank.specs.Lent.{LentFileCall, kept_file, lent_file_call}
@@ -54,17 +54,17 @@ unfolding body_of
 body_bytes k r b = bytes_take (size_of k r) (drop (head_of k) r) (bytes_drop (head_of k) r b)
 
 -- a frame's answer has its bytes in the buffer
-frame-told : (x : FrameAnswer) (buffer room : List ℕ) → told (frame_answer x) buffer room ≡ told (frame_answer x) buffer []
-frame-told (frame.Reply n) buffer room = refl
-frame-told frame.WrongLength buffer room = refl
+frame-told : (x : Result ℕ WrongLength) (buffer room : List ℕ) → told (frame_answer x) buffer room ≡ told (frame_answer x) buffer []
+frame-told (Ok n) buffer room = refl
+frame-told (Err e) buffer room = refl
 
 -- a file's answer has none
-file-told : (x : FileAnswer) (buffer room : List ℕ) → told (file_answer x) buffer room ≡ told (file_answer x) [] []
-file-told put.Done buffer room = refl
-file-told put.WrongLength buffer room = refl
-file-told put.NoMailbox buffer room = refl
-file-told put.WrongFile buffer room = refl
-file-told put.MailboxFull buffer room = refl
+file-told : (x : Result (Unit {0}) FileRefusal) (buffer room : List ℕ) → told (file_answer x) buffer room ≡ told (file_answer x) [] []
+file-told (Ok u) buffer room = refl
+file-told (Err put.WrongLength) buffer room = refl
+file-told (Err put.NoMailbox) buffer room = refl
+file-told (Err put.WrongFile) buffer room = refl
+file-told (Err put.MailboxFull) buffer room = refl
 
 -- ---- a frame
 
@@ -104,13 +104,13 @@ module _ {u : State} {s : Course} (v : Standing u s) (r : List ℕ) (b : Bytes r
       (frame-unchanged m input (on-rows.unchanged (record { ids = brought.ids; frame = brought.frame })) one)
 
   -- the session and the course have one bank and one journal
-  left_by_lem : (x : FrameAnswer) → o.answer ≡ x →
+  left_by_lem : (x : Result ℕ WrongLength) → o.answer ≡ x →
       (bank_at (frame_step u r).state ≡ (exec k s).bank) × (journal_at (frame_step u r).state ≡ (exec k s).journal)
   unfolding frame_step
-  left_by_lem (frame.Reply n) e =
+  left_by_lem (Ok n) e =
       let now = carried k s (number_is ∙ ap frame_number e) in
       (sym (ap (λ (t : Course). t.bank) now), sym (ap (λ (t : Course). t.journal) now))
-  left_by_lem frame.WrongLength e =
+  left_by_lem (Err x) e =
       let one = number_is ∙ ap frame_number e in
       let stays = refused-stays one in
       let now = numbered-stays k s (λ z. let n = sym one ∙ z in omega arith) in (
@@ -186,19 +186,19 @@ module _ {u : State} {s : Course} (v : Standing u s) (r : List ℕ) (b : Bytes r
   unfolding file_call
   course-next =
       ap (λ (t : Course). t.bank) (file-exec rows boxes mailbox file long (rows-sound v) s)
-      ∙ at (decide (file_refusals w.bank mailbox file w.mailboxes) put.Done)
+      ∙ at (decide (file_refusals w.bank mailbox file w.mailboxes) (Ok tt))
     where
-      by : FileAnswer → FileCall
+      by : Result (Unit {0}) FileRefusal → FileCall
       by x = carry_out_file x w.bank mailbox file w.mailboxes
 
-      at : (x : FileAnswer) →
+      at : (x : Result (Unit {0}) FileRefusal) →
           (cond (eqb (file_number (by x).answer) 0) (after_file (by x).bank (by x).mailboxes mailbox file s) s).bank
           ≡ bank_state (by x).bank w.orders (by x).mailboxes
-      at put.Done = ap (λ (y : BankState). bank_state (by put.Done).bank y.orders (by put.Done).mailboxes) (sym v.bank)
-      at put.WrongLength = sym v.bank
-      at put.NoMailbox = sym v.bank
-      at put.WrongFile = sym v.bank
-      at put.MailboxFull = sym v.bank
+      at (Ok u) = ap (λ (y : BankState). bank_state (by (Ok tt)).bank y.orders (by (Ok tt)).mailboxes) (sym v.bank)
+      at (Err put.WrongLength) = sym v.bank
+      at (Err put.NoMailbox) = sym v.bank
+      at (Err put.WrongFile) = sym v.bank
+      at (Err put.MailboxFull) = sym v.bank
 
   file-journal : journal_at (file_step u r).state ≡ journal_at u
   unfolding file_step

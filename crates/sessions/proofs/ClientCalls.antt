@@ -1,5 +1,7 @@
 -- A client's call keeps the length of a file buffer; one given a number changes nothing; a reply or none
 -- is taken by a run that has begun; one that answers a closing word leaves the run ended with it.
+use Rattle.number_table.specs.declared.table.WrongLength.{WrongLength}
+use Rattle.std.specs.Prelude.{Err, Ok, Result}
 use Prim.Native.Nat.{ℕ, ◌-◌, ◌*◌, ◌≤◌}
 use mathlib.Core.Bool.{Bool, true, false}
 use mathlib.Core.List.{List, []}
@@ -10,8 +12,6 @@ use Rattle.octets.proofs.Numbers.{length-overwrite}
 use Rattle.octets.proofs.Tests.{never}
 use Rattle.frame_table.specs.declared.fields.Fields.{Fields}
 use Rattle.frame_table.specs.Names.{no_fields}
-use Rattle.frame_writer.specs.declared.writer.Written.{Written}
-use Rattle.frame_writer.specs.declared.writer.Written.TheVariants as written
 use Rattle.frame_reader.specs.Reader.{read_reply}
 use Rattle.frame_row.specs.Row.{data_of}
 use Rattle.message.specs.Limits.{segment_bytes, file_bytes}
@@ -20,8 +20,8 @@ use Rattle.client_run.specs.declared.run.Answer.TheVariants as answer
 use Rattle.client_run.specs.declared.run.ClientRun.{ClientRun}
 use Rattle.client_run.specs.declared.run.Decision.{Decision}
 use Rattle.client_run.specs.declared.run.Decision.TheVariants.{Ignore, Opened, Advance, Return, Repeat, Close}
-use Rattle.client_run.specs.declared.run.Direction.{Direction}
-use Rattle.client_run.specs.declared.run.Direction.TheVariants as direction
+use Rattle.message.specs.declared.directions.Direction.{Direction}
+use Rattle.message.specs.declared.directions.Direction.TheVariants as direction
 use Rattle.client_run.specs.declared.run.Refusal.{Refusal}
 use Rattle.client_run.specs.declared.run.Refusal.TheVariants.{
   TimeTooHigh,
@@ -30,8 +30,6 @@ use Rattle.client_run.specs.declared.run.Refusal.TheVariants.{
   NoSubscriber,
   WrongStage,
 }
-use Rattle.client_run.specs.declared.run.Ruling.{Ruling}
-use Rattle.client_run.specs.declared.run.Ruling.TheVariants.{Refuse, Accept}
 use Rattle.client_run.specs.declared.run.RunParameters.{RunParameters}
 use Rattle.client_run.specs.declared.run.Stage.{Stage}
 use Rattle.client_run.specs.declared.run.Stage.TheVariants as stage
@@ -67,7 +65,7 @@ use Rattle.unit.specs.Call.{event_call}
 -- what a call to the run c that is lent l leaves
 pub record Keeps (c : ClientRun) (l : Lent) (k : ClientCall) : Type 0 where
   pub long : length k.file ≡ length l.file
-  pub refused : (x : Refusal) → k.answer ≡ answer.Refused x → (k.run ≡ c) × (k.file ≡ l.file)
+  pub refused : (x : Refusal) → k.answer ≡ Err x → (k.run ≡ c) × (k.file ≡ l.file)
 
 -- ---- a request issued
 
@@ -76,10 +74,10 @@ issued-keeps : (c next : ClientRun) (file : List ℕ) (l : Lent) → length file
 unfolding issued
 issued-keeps c next file l e = at (is_written next l)
   where
-    at : (w : Written) → Keeps c l (call_of (outcome_of w c next) (if_written w file l.file) (request_with next l))
-    at (written.Length n) =
+    at : (w : Result ℕ WrongLength) → Keeps c l (call_of (outcome_of w c next) (if_written w file l.file) (request_with next l))
+    at (Ok n) =
         record { long = e; refused = λ x h. absurd (let z : ◌≡◌ {A = ℕ} 0 1 = cc in omega arith) }
-    at written.Refused = record { long = refl; refused = λ x h. (refl, refl) }
+    at (Err e) = record { long = refl; refused = λ x h. (refl, refl) }
 
 -- a segment that a download holds has its place in the file buffer
 file-long : (k : ClientRun) (d file : List ℕ) → length file ≡ file_bytes → HasPlace k (length d) →
@@ -110,10 +108,10 @@ module _ (c : ClientRun) (l : Lent) (whole : length l.file ≡ file_bytes) (low 
 
 -- ---- the calls
 
-admitted-keeps : (u : Ruling) (c : ClientRun) (l : Lent) (done : ClientCall) → (u ≡ Accept → Keeps c l done) →
+admitted-keeps : (u : Result (Unit {0}) Refusal) (c : ClientRun) (l : Lent) (done : ClientCall) → (u ≡ Ok tt → Keeps c l done) →
     Keeps c l (if_admitted u c l done)
-admitted-keeps (Refuse x) c l done f = record { long = refl; refused = λ y h. (refl, refl) }
-admitted-keeps Accept c l done f = f refl
+admitted-keeps (Err x) c l done f = record { long = refl; refused = λ y h. (refl, refl) }
+admitted-keeps (Ok u) c l done f = f refl
 
 begin-keeps : (c : ClientRun) (params : RunParameters) (l : Lent) → Keeps c l (begin_call c params l)
 unfolding begin_call
@@ -152,10 +150,10 @@ refusal-numbered ExchangeTooHigh z = omega arith
 refusal-numbered NoSubscriber z = omega arith
 refusal-numbered WrongStage z = omega arith
 
-is-admitted : (u : Ruling) (c : ClientRun) (l : Lent) (done : ClientCall) →
-    answer_number (if_admitted u c l done).answer ≡ 0 → u ≡ Accept
-is-admitted (Refuse x) c l done z = absurd (refusal-numbered x z)
-is-admitted Accept c l done z = refl
+is-admitted : (u : Result (Unit {0}) Refusal) (c : ClientRun) (l : Lent) (done : ClientCall) →
+    answer_number (if_admitted u c l done).answer ≡ 0 → u ≡ Ok tt
+is-admitted (Err x) c l done z = absurd (refusal-numbered x z)
+is-admitted (Ok u) c l done z = refl
 
 module _ (c : ClientRun) (l : Lent) where
   begun-by : (done : ClientCall) →
@@ -175,29 +173,29 @@ module _ (c : ClientRun) (l : Lent) where
 -- ---- a closing word
 
 -- the word of an answer that has one
-abbrev word_in : Word → Answer → Word
-word_in x (answer.Request n) = x
-word_in x answer.Ignored = x
-word_in x (answer.Closed w) = w
-word_in x (answer.Refused y) = x
+abbrev word_in : Word → Result Answer Refusal → Word
+word_in x (Ok (answer.Request n)) = x
+word_in x (Ok answer.Ignored) = x
+word_in x (Ok (answer.Closed w)) = w
+word_in x (Err y) = x
 
-abbrev is_closed : Answer → Bool
-is_closed (answer.Request n) = false
-is_closed answer.Ignored = false
-is_closed (answer.Closed w) = true
-is_closed (answer.Refused y) = false
+abbrev is_closed : Result Answer Refusal → Bool
+is_closed (Ok (answer.Request n)) = false
+is_closed (Ok answer.Ignored) = false
+is_closed (Ok (answer.Closed w)) = true
+is_closed (Err y) = false
 
 -- what answers a closing word leaves the run ended with it
 abbrev Ends : ClientCall → Type 0
-Ends k = (w : Word) → k.answer ≡ answer.Closed w → k.run.stage ≡ stage.Ended w
+Ends k = (w : Word) → k.answer ≡ Ok (answer.Closed w) → k.run.stage ≡ stage.Ended w
 
 issued-ends : (c next : ClientRun) (file : List ℕ) (l : Lent) → Ends (issued c next file l)
 unfolding issued
 issued-ends c next file l w = at (is_written next l)
   where
-    at : (x : Written) → (outcome_of x c next).answer ≡ answer.Closed w → (outcome_of x c next).client.run.stage ≡ stage.Ended w
-    at (written.Length n) e = never (ap is_closed e)
-    at written.Refused e = never (ap is_closed e)
+    at : (x : Result ℕ WrongLength) → (outcome_of x c next).answer ≡ Ok (answer.Closed w) → (outcome_of x c next).client.run.stage ≡ stage.Ended w
+    at (Ok n) e = never (ap is_closed e)
+    at (Err x) e = never (ap is_closed e)
 
 carried-ends : (decision : Decision) (c : ClientRun) (r : Fields) (d : List ℕ) (l : Lent) → Ends (carry_out decision c r d l)
 unfolding taken ended
@@ -208,9 +206,9 @@ carried-ends (Return s) c r d l w e = issued-ends c _ l.file l w e
 carried-ends Repeat c r d l w e = issued-ends c _ l.file l w e
 carried-ends (Close x) c r d l w e = ap stage.Ended (ap (word_in x) e)
 
-admitted-ends : (u : Ruling) (c : ClientRun) (l : Lent) (done : ClientCall) → Ends done → Ends (if_admitted u c l done)
-admitted-ends (Refuse x) c l done f w e = never (ap is_closed e)
-admitted-ends Accept c l done f w e = f w e
+admitted-ends : (u : Result (Unit {0}) Refusal) (c : ClientRun) (l : Lent) (done : ClientCall) → Ends done → Ends (if_admitted u c l done)
+admitted-ends (Err x) c l done f w e = never (ap is_closed e)
+admitted-ends (Ok u) c l done f w e = f w e
 
 module _ (c : ClientRun) (l : Lent) where
   begin-ends : (params : RunParameters) → Ends (begin_call c params l)

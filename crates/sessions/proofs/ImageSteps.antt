@@ -1,5 +1,7 @@
 -- `P`, `T` and `I`: the session is put away into the image room's front or taken up from it, in the unit and in the course;
 -- the room keeps its length and holds bytes.
+use Rattle.image.specs.declared.codec.ImageRefusal.{ImageRefusal}
+use Rattle.std.specs.Prelude.{Err, Ok, Result}
 use Prim.Native.Nat.{ℕ, zero, suc, ◌+◌, ◌≤◌}
 use mathlib.Core.Bool.{Bool, true, false, cond, ◌&&◌}
 use mathlib.Core.List.{List, []}
@@ -17,10 +19,7 @@ use Rattle.bank_steps.specs.Lent as bank
 use Rattle.bank_session.specs.Session.{LentSession, bank_in, journal_in}
 use Rattle.image.specs.Items.{image_items}
 use Rattle.image.specs.Image.{stores, image_of}
-use Rattle.image_calls.specs.declared.calls.Away.{Away}
-use Rattle.image_calls.specs.declared.calls.Away.TheVariants as away
-use Rattle.image_calls.specs.declared.calls.TakenUp.{TakenUp}
-use Rattle.image_calls.specs.declared.calls.TakenUp.TheVariants as up
+use Rattle.image.specs.declared.codec.ImageRefusal.TheVariants as refusal
 use Rattle.image_calls.specs.Calls.{
   image_length,
   numbers_of,
@@ -67,8 +66,8 @@ module _ (m : LentSession) (buffer : List ℕ) where
   abbrev AwayBy : Bool → Bool → PutAway
   AwayBy b c =
       cond b
-      (cond c (put_away_of (away.Length image_length) (overwrite buffer 0 (image_in m))) (put_away_of away.NotAdmitted buffer))
-      (put_away_of away.WrongLength buffer)
+      (cond c (put_away_of (Ok image_length) (overwrite buffer 0 (image_in m))) (put_away_of (Err refusal.NotAdmitted) buffer))
+      (put_away_of (Err refusal.WrongLength) buffer)
 
   -- the buffer as it was, or the image in its front
   abbrev Left : List ℕ → Type 0
@@ -114,29 +113,29 @@ unfolding overwrite
 front_read room x n h = take-append-le n x _ h
 
 -- the answer with its image: in the room, and in what the call left
-away-told : (a : Away) (buffer room x : List ℕ) → ((n : ℕ) → a ≡ away.Length n → n ≤ length x) →
+away-told : (a : Result ℕ ImageRefusal) (buffer room x : List ℕ) → ((n : ℕ) → a ≡ Ok n → n ≤ length x) →
     told (away_answer a) buffer (overwrite room 0 x) ≡ told (away_answer a) [] x
-away-told (away.Length n) buffer room x h =
-    ap (λ (l : List ℕ). record { answer = away_answer (away.Length n); bytes = l }) (front_read room x n (h n refl))
-away-told away.WrongLength buffer room x h = refl
-away-told away.NotAdmitted buffer room x h = refl
+away-told (Ok n) buffer room x h =
+    ap (λ (l : List ℕ). record { answer = away_answer (Ok n); bytes = l }) (front_read room x n (h n refl))
+away-told (Err refusal.WrongLength) buffer room x h = refl
+away-told (Err refusal.NotAdmitted) buffer room x h = refl
 
 -- ---- what a taking up leaves
 
-taken-told : (a : TakenUp) (buffer room : List ℕ) → told (taken_up_answer a) buffer room ≡ told (taken_up_answer a) [] []
-taken-told up.Done buffer room = refl
-taken-told up.WrongLength buffer room = refl
-taken-told up.NotAdmitted buffer room = refl
+taken-told : (a : Result (Unit {0}) ImageRefusal) (buffer room : List ℕ) → told (taken_up_answer a) buffer room ≡ told (taken_up_answer a) [] []
+taken-told (Ok u) buffer room = refl
+taken-told (Err refusal.WrongLength) buffer room = refl
+taken-told (Err refusal.NotAdmitted) buffer room = refl
 
 -- it is done, or it is given a number
 done-or-not : (m : LentSession) (image : List ℕ) →
-    (((take_up m image).number ≡ 0) × ((take_up m image).answer ≡ up.Done)) ⊎ ((take_up m image).number ≡ 0 → ⊥)
+    (((take_up m image).number ≡ 0) × ((take_up m image).answer ≡ Ok tt)) ⊎ ((take_up m image).number ≡ 0 → ⊥)
 unfolding take_up
 done-or-not m image = at (lengths_right m) (is_admitted_image image)
   where
     at : (b c : Bool) →
-        let k = cond b (cond c (take_up_of up.Done (session_from image)) (take_up_of up.NotAdmitted m)) (take_up_of up.WrongLength m) in
-        ((k.number ≡ 0) × (k.answer ≡ up.Done)) ⊎ (k.number ≡ 0 → ⊥)
+        let k = cond b (cond c (take_up_of (Ok tt) (session_from image)) (take_up_of (Err refusal.NotAdmitted) m)) (take_up_of (Err refusal.WrongLength) m) in
+        ((k.number ≡ 0) × (k.answer ≡ Ok tt)) ⊎ (k.number ≡ 0 → ⊥)
     at true true = inl (refl, refl)
     at true false = inr (λ z. omega arith)
     at false c = inr (λ z. omega arith)
@@ -202,7 +201,7 @@ module _ {u : State} {s : Course} (v : Standing u s) (r : List ℕ) where
   k = takes_up (session_in u) (front_of u r)
 
   -- the session taken up is one of the list, whoever wrote it
-  up_done : (take_up (session_in u) front).number ≡ 0 → (take_up (session_in u) front).answer ≡ up.Done →
+  up_done : (take_up (session_in u) front).number ≡ 0 → (take_up (session_in u) front).answer ≡ Ok tt →
       Standing (take_up_step u r).state (exec k s)
   unfolding take_up_step
   up_done z d =
@@ -245,7 +244,7 @@ module _ {u : State} {s : Course} (v : Standing u s) (r : List ℕ) where
   up-standing : Standing (take_up_step u r).state (exec k s)
   up-standing = at (done-or-not (session_in u) front)
     where
-      at : (((take_up (session_in u) front).number ≡ 0) × ((take_up (session_in u) front).answer ≡ up.Done))
+      at : (((take_up (session_in u) front).number ≡ 0) × ((take_up (session_in u) front).answer ≡ Ok tt))
           ⊎ ((take_up (session_in u) front).number ≡ 0 → ⊥) → Standing (take_up_step u r).state (exec k s)
       at (inl (z, d)) = up_done z d
       at (inr n) = up-refused n

@@ -19,8 +19,9 @@ use Rattle.client_run.specs.declared.run.Word.{Word}
 use Rattle.client_run.specs.NextRun.{ended}
 use Rattle.client_run.specs.Run.{order_name}
 use Rattle.client_rules.specs.Rulings.{is_begun}
-use Rattle.client.specs.declared.journal_call.JournalAnswer.{JournalAnswer}
-use Rattle.client.specs.declared.journal_call.JournalAnswer.TheVariants as answer
+use Rattle.number_table.specs.declared.table.WrongLength.{WrongLength}
+use Rattle.number_table.specs.Numbers.{number_one}
+use Rattle.std.specs.Prelude.{Result, Ok, Err, Option, Some, None}
 use Rattle.client.specs.Journal.{JournalCall, answer_to, run_after, journal_call}
 use Rattle.client.proofs.Journal.{JournalCause, journal-cause}
 use Rattle.client.proofs.Journal as cause
@@ -63,21 +64,21 @@ module _ (c : ClientRun) (row : List Event) where
       at (cause.ended_so u l e) b = ap (λ (x : Stage). is_begun x) u
 
   -- one that it closes is ended with the word
-  closed-ends : (w : Word) → (journal_call c row).answer ≡ answer.Closed w → (journal_call c row).run.stage ≡ stage.Ended w
+  closed-ends : (w : Word) → (journal_call c row).answer ≡ Ok (Some w) → (journal_call c row).run.stage ≡ stage.Ended w
   unfolding journal_call ended
   closed-ends w = at (answer_to c.stage (length row) (lookup c.transaction row))
     where
-      at : (a : JournalAnswer) → a ≡ answer.Closed w → (run_after a c).stage ≡ stage.Ended w
-      at (answer.Closed x) e = ap (λ (b : JournalAnswer). (run_after b c).stage) e
-      at answer.Unchanged e = ap (λ (b : JournalAnswer). (run_after b c).stage) e
-      at answer.WrongLength e = ap (λ (b : JournalAnswer). (run_after b c).stage) e
+      at : (a : Result (Option Word) WrongLength) → a ≡ Ok (Some w) → (run_after a c).stage ≡ stage.Ended w
+      at (Ok (Some x)) e = ap (λ (b : Result (Option Word) WrongLength). (run_after b c).stage) e
+      at (Ok None) e = ap (λ (b : Result (Option Word) WrongLength). (run_after b c).stage) e
+      at (Err x) e = ap (λ (b : Result (Option Word) WrongLength). (run_after b c).stage) e
 
 -- its answer has no bytes
-no_bytes : (a : JournalAnswer) (c : ClientRun) (buffer room : List ℕ) →
+no_bytes : (a : Result (Option Word) WrongLength) (c : ClientRun) (buffer room : List ℕ) →
     told (journal_answer a c) buffer room ≡ told (journal_answer a c) [] []
-no_bytes (answer.Closed w) c buffer room = refl
-no_bytes answer.Unchanged c buffer room = refl
-no_bytes answer.WrongLength c buffer room = refl
+no_bytes (Ok (Some w)) c buffer room = refl
+no_bytes (Ok None) c buffer room = refl
+no_bytes (Err e) c buffer room = refl
 
 -- ---- the step
 

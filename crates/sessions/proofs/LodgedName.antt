@@ -1,31 +1,28 @@
 -- "Lodged" as the unit answers it: the run that the record names is ended so, and the answer has the name of its order, which
 -- is in the book. Assumes nothing.
+use Rattle.bank.specs.declared.mailbox.FileRefusal.{FileRefusal}
+use Rattle.calendar.specs.declared.dates.Date.{Date}
+use Rattle.image.specs.declared.codec.ImageRefusal.{ImageRefusal}
+use Rattle.line.specs.declared.calls.MakeRefusal.{MakeRefusal}
+use Rattle.number_table.specs.declared.table.TooLate.{TooLate}
+use Rattle.number_table.specs.declared.table.WrongLength.{WrongLength}
+use Rattle.opening_counts.specs.declared.seven.Counts.{Counts}
+use Rattle.std.specs.Prelude.{Err, None, Ok, Option, Result, Some}
 use Prim.Native.Nat.{ℕ, ◌<◌}
 use mathlib.Core.Bool.{Bool, true, false, cond}
 use mathlib.Core.List.{List, [], ◌∷◌, ◌++◌}
 use mathlib.Core.Path.{◌≡◌, refl, sym, ap, ◌∙◌, subst}
 use Rattle.octets.proofs.Tests.{never}
 use Rattle.journal.specs.declared.event.OrderName.{OrderName}
-use Rattle.bank.specs.declared.call.FrameAnswer.{FrameAnswer}
-use Rattle.bank.specs.declared.call.FrameAnswer.TheVariants as frame
-use Rattle.bank.specs.declared.mailbox.FileAnswer.{FileAnswer}
-use Rattle.bank.specs.declared.mailbox.FileAnswer.TheVariants as put
+use Rattle.bank.specs.declared.mailbox.FileRefusal.TheVariants as put
 use Rattle.bank.specs.Call.{frame_input}
-use Rattle.bank_session.specs.declared.report.CountAnswer.{CountAnswer}
-use Rattle.bank_session.specs.declared.report.CountAnswer.TheVariants as count
 use Rattle.bank_session.specs.Session.{session_frame_call, session_file_call, count_call}
-use Rattle.image_calls.specs.declared.calls.Away.{Away}
-use Rattle.image_calls.specs.declared.calls.Away.TheVariants as away
-use Rattle.image_calls.specs.declared.calls.TakenUp.{TakenUp}
-use Rattle.image_calls.specs.declared.calls.TakenUp.TheVariants as up
+use Rattle.image.specs.declared.codec.ImageRefusal.TheVariants as refusal
 use Rattle.image_calls.specs.Calls.{put_away, take_up}
-use Rattle.calendar.specs.declared.value_day.ValueDay.{ValueDay}
-use Rattle.calendar.specs.declared.value_day.ValueDay.TheVariants as value
 use Rattle.calendar.specs.ValueDay.{value_day}
-use Rattle.line.specs.declared.calls.MakeAnswer.{MakeAnswer}
-use Rattle.line.specs.declared.calls.MakeAnswer.TheVariants as make
-use Rattle.line.specs.declared.calls.PutAnswer.{PutAnswer}
-use Rattle.line.specs.declared.calls.PutAnswer.TheVariants as put-answer
+use Rattle.line.specs.declared.calls.MakeRefusal.TheVariants as make
+use Rattle.number_table.specs.declared.table.WrongLength.{WrongLength}
+use Rattle.line.specs.declared.calls.Delivery.{Delivery}
 use Rattle.client_run.specs.declared.run.ClientRun.{ClientRun}
 use Rattle.client_run.specs.declared.run.Word.{Word}
 use Rattle.client_run.specs.declared.run.Word.TheVariants.{Lodged}
@@ -49,6 +46,7 @@ use Rattle.unit_state.specs.Records.{
 use Rattle.unit_rows.specs.Lines.{row_at, is_made, made_at, put_at}
 use Rattle.unit.specs.State.{State, session_in}
 use Rattle.unit.specs.Call.{
+  delivery_answer,
   UnitCall,
   frame_answer,
   file_answer,
@@ -85,39 +83,42 @@ use Rattle.sessions.proofs.ClosingWords.{first-records, sessions-close}
 
 -- ---- the other answers close no run
 
-by-frame : (x : FrameAnswer) → is_closed (frame_answer x) ≡ false
-by-frame (frame.Reply n) = refl
-by-frame frame.WrongLength = refl
+by-frame : (x : Result ℕ WrongLength) → is_closed (frame_answer x) ≡ false
+by-frame (Ok n) = refl
+by-frame (Err e) = refl
 
-by-file : (x : FileAnswer) → is_closed (file_answer x) ≡ false
-by-file put.Done = refl
-by-file put.WrongLength = refl
-by-file put.NoMailbox = refl
-by-file put.WrongFile = refl
-by-file put.MailboxFull = refl
+by-file : (x : Result (Unit {0}) FileRefusal) → is_closed (file_answer x) ≡ false
+by-file (Ok u) = refl
+by-file (Err put.WrongLength) = refl
+by-file (Err put.NoMailbox) = refl
+by-file (Err put.WrongFile) = refl
+by-file (Err put.MailboxFull) = refl
 
-by-away : (x : Away) → is_closed (away_answer x) ≡ false
-by-away (away.Length n) = refl
-by-away away.WrongLength = refl
-by-away away.NotAdmitted = refl
+by-away : (x : Result ℕ ImageRefusal) → is_closed (away_answer x) ≡ false
+by-away (Ok n) = refl
+by-away (Err refusal.WrongLength) = refl
+by-away (Err refusal.NotAdmitted) = refl
 
-by-value-day : (x : ValueDay) → is_closed (value_day_answer x) ≡ false
-by-value-day (value.Day d) = refl
-by-value-day value.TooLate = refl
+by-value-day : (x : Result Date TooLate) → is_closed (value_day_answer x) ≡ false
+by-value-day (Ok d) = refl
+by-value-day (Err e) = refl
 
-by_count : (x : CountAnswer) → is_closed (count_answer x) ≡ false
-by_count (count.Counted c) = refl
-by_count count.WrongLength = refl
+by_count : (x : Result Counts WrongLength) → is_closed (count_answer x) ≡ false
+by_count (Ok c) = refl
+by_count (Err e) = refl
 
-by-line : (x : MakeAnswer) → is_closed (line_answer x) ≡ false
-by-line make.Made = refl
-by-line make.WrongLength = refl
-by-line make.SeedZero = refl
+by-line : (x : Result (Unit {0}) MakeRefusal) → is_closed (line_answer x) ≡ false
+by-line (Ok u) = refl
+by-line (Err make.WrongLength) = refl
+by-line (Err make.SeedZero) = refl
 
-by_out : (x : PutAnswer) → is_closed (out_answer x) ≡ false
-by_out (put-answer.Out n) = refl
-by_out (put-answer.OutAndHeld n k) = refl
-by_out put-answer.WrongLength = refl
+by_held : (n : ℕ) (held : Option ℕ) → is_closed (delivery_answer n held) ≡ false
+by_held n None = refl
+by_held n (Some k) = refl
+
+by_out : (x : Result Delivery WrongLength) → is_closed (out_answer x) ≡ false
+by_out (Ok d) = by_held d.copies d.held
+by_out (Err e) = refl
 
 -- to a line not made it is no call
 by-put : (t : Bool) (u : State) (x : UnitCall) → is_closed x.answer ≡ false
@@ -125,10 +126,10 @@ by-put : (t : Bool) (u : State) (x : UnitCall) → is_closed x.answer ≡ false
 by-put true u x e = e
 by-put false u x e = refl
 
-by-taken : (x : TakenUp) → is_closed (taken_up_answer x) ≡ false
-by-taken up.Done = refl
-by-taken up.WrongLength = refl
-by-taken up.NotAdmitted = refl
+by-taken : (x : Result (Unit {0}) ImageRefusal) → is_closed (taken_up_answer x) ≡ false
+by-taken (Ok u) = refl
+by-taken (Err refusal.WrongLength) = refl
+by-taken (Err refusal.NotAdmitted) = refl
 
 -- ---- the run that the record names
 

@@ -1,4 +1,6 @@
 -- The stores hold bytes after every call, and so do images written and stores taken up. Assumes nothing.
+use Rattle.bank.specs.declared.mailbox.FileRefusal.{FileRefusal}
+use Rattle.std.specs.Prelude.{Err, Ok, Result}
 use Prim.Native.Nat.{ℕ, zero, suc, ◌+◌, ◌-◌, ◌*◌, ◌<◌, ◌/◌, ◌%◌}
 use mathlib.Core.Bool.{Bool, true, false, cond, ◌&&◌}
 use mathlib.Core.List.{List, [], ◌∷◌, ◌++◌}
@@ -30,8 +32,7 @@ use Rattle.bank_verdicts.specs.declared.verdict.Verdict.TheVariants as verdict
 use Rattle.bank_verdicts.specs.Judgement.{judge}
 use Rattle.bank_uploads.specs.Uploads.{bytes_after}
 use Rattle.bank_steps.specs.Steps.{on_upload, carry_out}
-use Rattle.bank.specs.declared.mailbox.FileAnswer.{FileAnswer}
-use Rattle.bank.specs.declared.mailbox.FileAnswer.TheVariants as put
+use Rattle.bank.specs.declared.mailbox.FileRefusal.TheVariants as put
 use Rattle.bank.specs.Call.{context_of, FrameInput, FrameCall, lent_right, respond, frame_call}
 use Rattle.bank.specs.Mailbox.{file_refusals, carry_out_file, file_call}
 use Rattle.image.specs.Items.{Item, constant, part, store}
@@ -157,14 +158,14 @@ frame-holds w a b h =
 pub file-holds : (b : Bank) (mailbox : ℕ) (file mailboxes : List ℕ) → Bytes file → Bytes mailboxes →
     Bytes (file_call b mailbox file mailboxes).mailboxes
 unfolding file_call
-file-holds b mailbox file mailboxes h k = at (decide (file_refusals b mailbox file mailboxes) put.Done)
+file-holds b mailbox file mailboxes h k = at (decide (file_refusals b mailbox file mailboxes) (Ok tt))
   where
-    at : (x : FileAnswer) → Bytes (carry_out_file x b mailbox file mailboxes).mailboxes
-    at put.Done = bytes-overwrite mailboxes _ file k h
-    at put.WrongLength = k
-    at put.NoMailbox = k
-    at put.WrongFile = k
-    at put.MailboxFull = k
+    at : (x : Result (Unit {0}) FileRefusal) → Bytes (carry_out_file x b mailbox file mailboxes).mailboxes
+    at (Ok u) = bytes-overwrite mailboxes _ file k h
+    at (Err put.WrongLength) = k
+    at (Err put.NoMailbox) = k
+    at (Err put.WrongFile) = k
+    at (Err put.MailboxFull) = k
 
 -- ---- images
 

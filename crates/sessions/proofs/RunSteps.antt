@@ -1,5 +1,7 @@
 -- `U`, `D`, `R`, `N`: the run that the record names is what its call leaves, in the unit and in the course; a call given
 -- a number leaves both as they were; the other runs and the bank stay.
+use Rattle.std.specs.Prelude.{Result, Ok, Err}
+use Rattle.client_run.specs.declared.run.Refusal.{Refusal}
 use Prim.Native.Nat.{ℕ, ◌≤◌, ◌<◌}
 use mathlib.Core.Bool.{Bool, true, false, cond}
 use mathlib.Core.List.{List, []}
@@ -80,11 +82,11 @@ module _ (i : ℕ) (c : ClientRun) (r : List ℕ) (l : Lent) where
   run-carried NoReply s = record { bank = refl; journal = refl; runs = refl; payloads = refl; files = refl }
 
 -- its answer has its bytes in the buffer
-run-told : (a : client.Answer) (c : ClientRun) (buffer room : List ℕ) → told (run_answer a c) buffer room ≡ told (run_answer a c) buffer []
-run-told (answer.Request n) c buffer room = refl
-run-told answer.Ignored c buffer room = refl
-run-told (answer.Closed w) c buffer room = refl
-run-told (answer.Refused x) c buffer room = refl
+run-told : (a : Result client.Answer Refusal) (c : ClientRun) (buffer room : List ℕ) → told (run_answer a c) buffer room ≡ told (run_answer a c) buffer []
+run-told (Ok (answer.Request n)) c buffer room = refl
+run-told (Ok answer.Ignored) c buffer room = refl
+run-told (Ok (answer.Closed w)) c buffer room = refl
+run-told (Err x) c buffer room = refl
 
 module _ {A : Type 0} (f : ℕ → A) (i : ℕ) (a : A) where
   pub changed-own : changed f i a i ≡ a
@@ -300,11 +302,11 @@ module _ {u : State} {s : Course} (v : Standing u s) (r : List ℕ) (e : Event) 
           subst (Standing next) (sym (carried (run_of e u r) s (number_is i run.client.run r l e ∙ z)))
           (moves is (carry_out (run_of e u r) s) (run-carried i run.client.run r l e s))
 
-      at : (a : client.Answer) → o.answer ≡ a → Standing next (exec (run_of e u r) s)
-      at (answer.Request n) z = given-none (ap (keeps (unit.begins e)) z) (ap answer_number z)
-      at answer.Ignored z = given-none (ap (keeps (unit.begins e)) z) (ap answer_number z)
-      at (answer.Closed w) z = given-none (ap (keeps (unit.begins e)) z) (ap answer_number z)
-      at (answer.Refused x) z =
+      at : (a : Result client.Answer Refusal) → o.answer ≡ a → Standing next (exec (run_of e u r) s)
+      at (Ok (answer.Request n)) z = given-none (ap (keeps (unit.begins e)) z) (ap answer_number z)
+      at (Ok answer.Ignored) z = given-none (ap (keeps (unit.begins e)) z) (ap answer_number z)
+      at (Ok (answer.Closed w)) z = given-none (ap (keeps (unit.begins e)) z) (ap answer_number z)
+      at (Err x) z =
           subst (Standing next)
           (sym (numbered-stays (run_of e u r) s
           (λ n. refusal-numbered x (sym (number_is i run.client.run r l e ∙ ap answer_number z) ∙ n))))

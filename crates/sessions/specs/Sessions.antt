@@ -25,7 +25,7 @@ use Rattle.bank_session.specs.Session.{
 }
 use Rattle.image_calls.specs.Calls.{put_away, take_up}
 use Rattle.client_run.specs.declared.run.ClientRun.{ClientRun}
-use Rattle.client_run.specs.declared.run.Direction.TheVariants as direction
+use Rattle.message.specs.declared.directions.Direction.TheVariants as direction
 use Rattle.client_run.specs.declared.run.Stage.TheVariants as stage
 use Rattle.client_run.specs.declared.run.Word.TheVariants.{Lodged, NotLodged, Fetched}
 use Rattle.client.specs.Calls.{begin_call, reply_call, no_reply_call}

@@ -9,46 +9,41 @@ const BIT_COUNT: u64 = 8;
 const RELEASING: u32 = 2;
 
 // Whether a subscriber has a bit.
+#[tactic(auto, unfolding(crate::specs::Signers::has_bit))]
 fn has_bit(subscriber: u64) -> bool
     ensures { result ≡ has_bit subscriber }
 {
-    if subscriber < 1 {
-        return false;
-    }
-    subscriber <= BIT_COUNT
+    (1..=BIT_COUNT).contains(&subscriber)
 }
 
 // Whether the subscriber is a signer.
+#[tactic(auto, unfolding(crate::specs::Signers::is_signer))]
 pub fn is_signer(set: u8, subscriber: u64) -> bool
     ensures { result ≡ is_signer subscriber set }
 {
-    if has_bit(subscriber) {
-        return (set >> (subscriber - 1)) % 2 == 1;
-    }
-    false
+    has_bit(subscriber) && (set >> (subscriber - 1)) % 2 == 1
 }
 
-// The set with the subscriber in it.
+// The set with the subscriber in it: by a sum, as the definition has it, since the bit is not set there.
 pub fn with_signer(set: u8, subscriber: u64) -> u8
     ensures { result ≡ with_signer subscriber set }
 {
-    if is_signer(set, subscriber) {
-        return set;
+    if has_bit(subscriber) && !is_signer(set, subscriber) {
+        set + (1 << (subscriber - 1))
+    } else {
+        set
     }
-    if has_bit(subscriber) {
-        return set + (1 << (subscriber - 1));
-    }
-    set
 }
 
 // How many signers the set has: the ones of the number.
 pub fn count(set: u8) -> u32
     ensures { result ≡ signer_count set }
 {
-    u8::count_ones(set)
+    set.count_ones()
 }
 
 // Whether the signers release the order.
+#[tactic(auto, unfolding(crate::specs::Signers::is_released))]
 pub fn is_released(set: u8) -> bool
     ensures { result ≡ is_released set }
 {

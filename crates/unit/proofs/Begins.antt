@@ -1,4 +1,6 @@
 -- What is known of a begin that is given no number, and of rooms of the right lengths. Assumes nothing.
+use Rattle.client_run.specs.declared.run.Refusal.{Refusal}
+use Rattle.std.specs.Prelude.{Err, Ok, Result}
 use Prim.Native.Nat.{ℕ, ◌≤◌}
 use mathlib.Core.Bool.{Bool, true, false, cond}
 use mathlib.Core.List.{List}
@@ -10,8 +12,6 @@ use borrow.Author.Tests.{eqb-true}
 use Rattle.octets.proofs.Tests.{never, and-true}
 use Rattle.message.specs.Limits.{file_bytes}
 use Rattle.client_run.specs.declared.run.ClientRun.{ClientRun}
-use Rattle.client_run.specs.declared.run.Ruling.{Ruling}
-use Rattle.client_run.specs.declared.run.Ruling.TheVariants.{Refuse, Accept}
 use Rattle.client_run.specs.declared.run.RunParameters.{RunParameters}
 use Rattle.client_run.specs.Run.{Lent, ClientCall, lengths_of}
 use Rattle.client_rules.specs.Rulings.{begin_ruling}
@@ -29,20 +29,20 @@ use Rattle.unit_rows.specs.Lines.{lines_size, stores_bytes}
 use Rattle.unit.specs.Call.{begins, room_call, keeps, rooms_right}
 
 module _ (c : ClientRun) (params : RunParameters) (l : Lent) where
-  serves-at : (u : Ruling) → begin_ruling c params l.time (lengths_of l) ≡ u
+  serves-at : (u : Result (Unit {0}) Refusal) → begin_ruling c params l.time (lengths_of l) ≡ u
       → keeps true (if_admitted u c l (admitted_begin c params l)).answer ≡ true → Serves params.direction (lengths_of l)
-  serves-at (Refuse x) e h = never h
-  serves-at Accept e h = (accepted.begins c params l e).buffers
+  serves-at (Err x) e h = never h
+  serves-at (Ok u) e h = (accepted.begins c params l e).buffers
 
   kept-serves : keeps true (begin_call c params l).answer ≡ true → Serves params.direction (lengths_of l)
   unfolding begin_call
   kept-serves h = serves-at (begin_ruling c params l.time (lengths_of l)) refl h
 
-only-begin : (begin : Bool) (a : Answer) → keeps begin a ≡ true → begin ≡ true
-only-begin begin (answer.Request n) h = h
-only-begin begin answer.Ignored h = h
-only-begin begin (answer.Closed w) h = h
-only-begin begin (answer.Refused x) h = never h
+only-begin : (begin : Bool) (a : Result Answer Refusal) → keeps begin a ≡ true → begin ≡ true
+only-begin begin (Ok (answer.Request n)) h = h
+only-begin begin (Ok answer.Ignored) h = h
+only-begin begin (Ok (answer.Closed w)) h = h
+only-begin begin (Err x) h = never h
 
 kept-fits-at : (e : Event) (c : ClientRun) (i : ℕ) (r : List ℕ) (l : Lent) (body held : List ℕ)
     → l.payload ≡ cond (begins e) body held → body ≡ body_of (Run e) r → keeps (begins e) (room_call e c i r l).answer ≡ true

@@ -6,9 +6,10 @@ use native.Mathlib.Nat.{zero-add}
 use native.Mathlib.Omega.{arith}
 use lib.ListN.{length, take, drop}
 use borrow.Author.Tests.{leb-true}
+use Rattle.std.specs.Prelude.{Result}
 use Rattle.octets.specs.Bytes.{overwrite}
+use Rattle.image.specs.declared.codec.ImageRefusal.{ImageRefusal}
 use Rattle.bank_steps.specs.Lent.{Lent}
-use Rattle.image_calls.specs.declared.calls.Away as put-away
 use Rattle.image_calls.specs.Calls.{put_away_of, put_away}
 use Rattle.unit_state.specs.declared.record.Kind.{Kind}
 use Rattle.unit_state.specs.declared.record.Kind.TheVariants as kind
@@ -38,7 +39,7 @@ unfolding overwrite
 front-back room x n e = rw (zero-add, e)
 
 -- the session put away into the front of the room
-pub away-left : (u : UnitState) (bank : Lent) (p f b room : List ℕ) (l : Lines) (r x : List ℕ) (n : ℕ) (out : put-away.Away) (answer : Answer)
+pub away-left : (u : UnitState) (bank : Lent) (p f b room : List ℕ) (l : Lines) (r x : List ℕ) (n : ℕ) (out : Result ℕ ImageRefusal) (answer : Answer)
     → n ≡ lent_length_of r → length x ≡ n
     → put_away_of out x ≡ put_away (session_in (state_of u (memory bank p f b room l))) (take n room) → answer ≡ away_answer out
     → after_call u (memory bank p f b (x ++ drop n room) l) answer ≡ away_step (state_of u (memory bank p f b room l)) r

@@ -1,12 +1,14 @@
 -- The unit after the calls on lines, from what each part of the call leaves. Assumes nothing.
+use Rattle.line.specs.declared.calls.MakeRefusal.{MakeRefusal}
+use Rattle.std.specs.Prelude.{Result}
 use Prim.Native.Nat.{ℕ}
 use mathlib.Core.Bool.{Bool, true, false, not}
 use mathlib.Core.List.{List}
 use mathlib.Core.Path.{◌≡◌, refl, sym, ◌∙◌}
 use borrow.Author.Tests.{not-true, not-false}
 use Rattle.bank_steps.specs.Lent.{Lent}
-use Rattle.line.specs.declared.calls.MakeAnswer.{MakeAnswer}
-use Rattle.line.specs.declared.calls.PutAnswer.{PutAnswer}
+use Rattle.number_table.specs.declared.table.WrongLength.{WrongLength}
+use Rattle.line.specs.declared.calls.Delivery.{Delivery}
 use Rattle.unit_state.specs.declared.record.Kind.{Kind}
 use Rattle.unit_state.specs.declared.record.Kind.TheVariants as kind
 use Rattle.unit_state.specs.declared.answer.Answer.{Answer}
@@ -27,7 +29,7 @@ line-put-named r k ek told = (callable r kind.PutIn refl (sym ek ∙ told)).with
 
 module _ (u : UnitState) (bank : Lent) (p f b room : List ℕ) (l : Lines) (r : List ℕ) (i : ℕ) (at : i ≡ line_index r) where
   -- the line is made
-  pub line_made : (l' : Lines) (seed : ℕ) (a : MakeAnswer) (answer : Answer)
+  pub line_made : (l' : Lines) (seed : ℕ) (a : Result (Unit {0}) MakeRefusal) (answer : Answer)
       → seed ≡ seed_of r → made_at_of a l' ≡ made_at l i seed → answer ≡ line_answer a
       → after_call u (memory bank p f b room l') answer ≡ make_step (state_of u (memory bank p f b room l)) r
   unfolding make_step
@@ -35,7 +37,7 @@ module _ (u : UnitState) (bank : Lent) (p f b room : List ℕ) (l : Lines) (r : 
 
   module _ (t : Bool) (et : t ≡ is_made (row_at l.rows i)) where
     -- the message is put in
-    pub message-put : (l' : Lines) (b' body : List ℕ) (a : PutAnswer) (answer : Answer)
+    pub message-put : (l' : Lines) (b' body : List ℕ) (a : Result Delivery WrongLength) (answer : Answer)
         → not t ≡ false → body ≡ body_of kind.PutIn r → put_at_of a l' b' ≡ put_at l i body b → answer ≡ out_answer a
         → after_call u (memory bank p f b' room l') answer ≡ put_in_step (state_of u (memory bank p f b room l)) r
     unfolding put_in_step put_step

@@ -1,4 +1,5 @@
 -- The answer that closes a run has its closing word and what names its order. Assumes nothing.
+use Rattle.client_run.specs.declared.run.Refusal.{Refusal}
 use mathlib.Core.Bool.{Bool, true, false}
 use mathlib.Core.Path.{◌≡◌, sym, ap}
 use Rattle.octets.proofs.Tests.{never}
@@ -8,8 +9,9 @@ use Rattle.client_run.specs.declared.run.Answer.TheVariants as client-answer
 use Rattle.client_run.specs.declared.run.ClientRun.{ClientRun}
 use Rattle.client_run.specs.declared.run.Word.{Word}
 use Rattle.client_run.specs.Run.{order_name}
-use Rattle.client.specs.declared.journal_call.JournalAnswer.{JournalAnswer}
-use Rattle.client.specs.declared.journal_call.JournalAnswer.TheVariants as journal-answer
+use Rattle.number_table.specs.declared.table.WrongLength.{WrongLength}
+use Rattle.number_table.specs.Numbers.{number_one}
+use Rattle.std.specs.Prelude.{Result, Ok, Err, Option, Some, None}
 use Rattle.unit_state.specs.declared.answer.Answer.{Answer}
 use Rattle.unit_state.specs.declared.answer.Answer.TheVariants.{
   Frame,
@@ -88,13 +90,13 @@ name_in x NoCall = x
 
 module _ (c : ClientRun) (w : Word) (o : OrderName) where
   -- "'Lodged' names subscriber, type and number together": those of the run c after the call
-  pub run-named : (a : client.Answer) → run_answer a c ≡ Closed w o → (a ≡ client-answer.Closed w) × (o ≡ order_name c)
-  run-named (client-answer.Request n) e = never (ap is_closed e)
-  run-named client-answer.Ignored e = never (ap is_closed e)
-  run-named (client-answer.Closed x) e = (ap client-answer.Closed (ap (word_in x) e), sym (ap (name_in o) e))
-  run-named (client-answer.Refused x) e = never (ap is_closed e)
+  pub run-named : (a : Result client.Answer Refusal) → run_answer a c ≡ Closed w o → (a ≡ Ok (client-answer.Closed w)) × (o ≡ order_name c)
+  run-named (Ok (client-answer.Request n)) e = never (ap is_closed e)
+  run-named (Ok client-answer.Ignored) e = never (ap is_closed e)
+  run-named (Ok (client-answer.Closed x)) e = (ap (λ x. Ok (client-answer.Closed x)) (ap (word_in x) e), sym (ap (name_in o) e))
+  run-named (Err x) e = never (ap is_closed e)
 
-  pub journal-named : (a : JournalAnswer) → journal_answer a c ≡ Closed w o → (a ≡ journal-answer.Closed w) × (o ≡ order_name c)
-  journal-named (journal-answer.Closed x) e = (ap journal-answer.Closed (ap (word_in x) e), sym (ap (name_in o) e))
-  journal-named journal-answer.Unchanged e = never (ap is_closed e)
-  journal-named journal-answer.WrongLength e = never (ap is_closed e)
+  pub journal-named : (a : Result (Option Word) WrongLength) → journal_answer a c ≡ Closed w o → (a ≡ Ok (Some w)) × (o ≡ order_name c)
+  journal-named (Ok (Some x)) e = (ap (λ (x : Word). Ok (Some x)) (ap (word_in x) e), sym (ap (name_in o) e))
+  journal-named (Ok None) e = never (ap is_closed e)
+  journal-named (Err x) e = never (ap is_closed e)

@@ -1,41 +1,44 @@
 -- One call of a record on the unit.
+use Rattle.image.specs.declared.codec.ImageRefusal.{ImageRefusal}
+use Rattle.client_run.specs.declared.run.Word.{Word}
+use Rattle.octets.specs.Bytes.{number}
+use Rattle.client_run.specs.declared.run.Refusal.{Refusal}
+use Rattle.bank.specs.declared.mailbox.FileRefusal.{FileRefusal}
+use Rattle.calendar.specs.declared.dates.Date.{Date}
+use Rattle.line.specs.declared.calls.MakeRefusal.{MakeRefusal}
+use Rattle.number_table.specs.Numbers.{number_one, number_ten}
+use Rattle.number_table.specs.declared.table.TooLate.{TooLate}
+use Rattle.number_table.specs.declared.table.WrongLength.{WrongLength}
+use Rattle.opening_counts.specs.declared.seven.Counts.{Counts}
+use Rattle.std.specs.Prelude.{Err, Ok, Result}
 use Rattle.std.specs.Prelude.{ℕ, ◌-◌, ◌≤◌, ◌≡◌, Bool, true, false, cond, ◌&&◌, List, eqb, length, take}
 use Rattle.octets.specs.Bytes.{overwrite}
-use Rattle.calendar.specs.declared.value_day.ValueDay.{ValueDay}
-use Rattle.calendar.specs.declared.value_day.ValueDay.TheVariants as value
 use Rattle.calendar.specs.ValueDay.{value_day, answered}
-use Rattle.line.specs.declared.calls.MakeAnswer.{MakeAnswer}
-use Rattle.line.specs.declared.calls.MakeAnswer.TheVariants as make
-use Rattle.line.specs.declared.calls.PutAnswer.{PutAnswer}
-use Rattle.line.specs.declared.calls.PutAnswer.TheVariants as put-answer
-use Rattle.line.specs.Calls.{make_number, put_number}
+use Rattle.line.specs.declared.calls.MakeRefusal.TheVariants as make
+use Rattle.number_table.specs.declared.table.WrongLength.{WrongLength}
+use Rattle.line.specs.declared.calls.Delivery.{Delivery}
+use Rattle.line.specs.Calls.{make_refusal_number, put_number}
 use Rattle.bank_state.specs.Store.{part_at, with_part, file_of}
-use Rattle.bank.specs.declared.call.FrameAnswer.{FrameAnswer}
-use Rattle.bank.specs.declared.call.FrameAnswer.TheVariants as frame-answer
-use Rattle.bank.specs.declared.mailbox.FileAnswer.{FileAnswer}
-use Rattle.bank.specs.declared.mailbox.FileAnswer.TheVariants as file-answer
+use Rattle.bank.specs.declared.mailbox.FileRefusal.TheVariants as file-answer
 use Rattle.bank.specs.Call.{frame_input, frame_number}
 use Rattle.bank_steps.specs.Lent.{lent}
-use Rattle.bank.specs.Mailbox.{file_number}
-use Rattle.bank_session.specs.declared.report.CountAnswer.{CountAnswer}
-use Rattle.bank_session.specs.declared.report.CountAnswer.TheVariants as count-answer
+use Rattle.bank.specs.Mailbox.{file_refusal_number}
 use Rattle.bank_session.specs.Session.{session_frame_call, session_file_call, count_call, count_number}
-use Rattle.image_calls.specs.declared.calls.Away as put-away
-use Rattle.image_calls.specs.declared.calls.Away.TheVariants as away
-use Rattle.image_calls.specs.declared.calls.TakenUp as taken-up
-use Rattle.image_calls.specs.declared.calls.TakenUp.TheVariants as up
-use Rattle.image_calls.specs.Calls.{away_number, put_away, taken_up_number, take_up}
+use Rattle.image.specs.declared.codec.ImageRefusal.TheVariants as refusal
+use Rattle.image.specs.Image.{image_refusal_number}
+use Rattle.image_calls.specs.Calls.{put_away, take_up}
 use Rattle.client_run.specs.declared.run.Answer as client
 use Rattle.client_run.specs.declared.run.Answer.TheVariants as client-answer
 use Rattle.client_run.specs.declared.run.ClientRun.{ClientRun}
-use Rattle.client_run.specs.declared.run.Direction.{Direction}
-use Rattle.client_run.specs.declared.run.Direction.TheVariants as direction
+use Rattle.message.specs.declared.directions.Direction.{Direction}
+use Rattle.message.specs.declared.directions.Direction.TheVariants as direction
 use Rattle.client_run.specs.declared.run.RunParameters.{RunParameters}
 use Rattle.client_run.specs.declared.run.RunTerms.{RunTerms}
 use Rattle.client_run.specs.Run.{Lent, ClientCall, terms_of25, parameters_of, lent_of, refusal_number, order_name}
 use Rattle.client.specs.Calls.{begin_call, reply_call, no_reply_call}
-use Rattle.client.specs.declared.journal_call.JournalAnswer.{JournalAnswer}
-use Rattle.client.specs.declared.journal_call.JournalAnswer.TheVariants as journal-answer
+use Rattle.number_table.specs.declared.table.WrongLength.{WrongLength}
+use Rattle.number_table.specs.Numbers.{number_one}
+use Rattle.std.specs.Prelude.{Result, Ok, Err, Option, Some, None}
 use Rattle.client.specs.Journal.{journal_number, journal_call}
 use Rattle.unit_state.specs.declared.record.Event.{Event}
 use Rattle.unit_state.specs.declared.record.Event.TheVariants.{Upload, Download, Reply, NoReply}
@@ -113,59 +116,57 @@ after_call u m a = record { state = state_of u m; answer = a }
 
 -- the answers of the bank's two calls, of a client's, and of the journal handed to it; a run that ends as lodged names
 -- its order: "subscriber, type and number together"
-abbrev pub frame_answer : FrameAnswer → Answer
-frame_answer (frame-answer.Reply n) = Frame n
-frame_answer frame-answer.WrongLength = Number (frame_number frame-answer.WrongLength)
+abbrev pub frame_answer : Result ℕ WrongLength → Answer
+frame_answer (Ok n) = Frame n
+frame_answer (Err e) = Number (frame_number (Err number_one))
 
-abbrev pub file_answer : FileAnswer → Answer
-file_answer file-answer.Done = Put
-file_answer file-answer.WrongLength = Number (file_number file-answer.WrongLength)
-file_answer file-answer.NoMailbox = Number (file_number file-answer.NoMailbox)
-file_answer file-answer.WrongFile = Number (file_number file-answer.WrongFile)
-file_answer file-answer.MailboxFull = Number (file_number file-answer.MailboxFull)
+abbrev pub file_answer : Result (Unit {0}) FileRefusal → Answer
+file_answer (Ok u) = Put
+file_answer (Err r) = Number (file_refusal_number r)
 
-abbrev pub run_answer : client.Answer → ClientRun → Answer
-run_answer (client-answer.Request n) c = Request n
-run_answer client-answer.Ignored c = Ignored
-run_answer (client-answer.Closed w) c = Closed w (order_name c)
-run_answer (client-answer.Refused x) c = Number (refusal_number x)
+abbrev pub run_answer : Result client.Answer Refusal → ClientRun → Answer
+run_answer (Ok (client-answer.Request n)) c = Request n
+run_answer (Ok client-answer.Ignored) c = Ignored
+run_answer (Ok (client-answer.Closed w)) c = Closed w (order_name c)
+run_answer (Err x) c = Number (refusal_number x)
 
-abbrev pub journal_answer : JournalAnswer → ClientRun → Answer
-journal_answer (journal-answer.Closed w) c = Closed w (order_name c)
-journal_answer journal-answer.Unchanged c = Unchanged
-journal_answer journal-answer.WrongLength c = Number (journal_number journal-answer.WrongLength)
+abbrev pub journal_answer : Result (Option Word) WrongLength → ClientRun → Answer
+journal_answer (Ok (Some w)) c = Closed w (order_name c)
+journal_answer (Ok None) c = Unchanged
+journal_answer (Err e) c = Number (journal_number (Err number_one))
 
 -- the answers of putting away, with the image's length, and of taking up
-abbrev pub away_answer : put-away.Away → Answer
-away_answer (away.Length n) = Away n
-away_answer away.WrongLength = Number (away_number away.WrongLength)
-away_answer away.NotAdmitted = Number (away_number away.NotAdmitted)
+abbrev pub away_answer : Result ℕ ImageRefusal → Answer
+away_answer (Ok n) = Away n
+away_answer (Err r) = Number (image_refusal_number r)
 
-abbrev pub taken_up_answer : taken-up.TakenUp → Answer
-taken_up_answer up.Done = TakenUp
-taken_up_answer up.WrongLength = Number (taken_up_number up.WrongLength)
-taken_up_answer up.NotAdmitted = Number (taken_up_number up.NotAdmitted)
+abbrev pub taken_up_answer : Result (Unit {0}) ImageRefusal → Answer
+taken_up_answer (Ok u) = TakenUp
+taken_up_answer (Err r) = Number (image_refusal_number r)
 
 -- the answer of a value day
-abbrev pub value_day_answer : ValueDay → Answer
-value_day_answer (value.Day d) = Day d
-value_day_answer value.TooLate = Number (answered value.TooLate).number
+abbrev pub value_day_answer : Result Date TooLate → Answer
+value_day_answer (Ok d) = Day d
+value_day_answer (Err e) = Number (answered (Err number_ten)).number
 
 -- the answer of the counts
-abbrev pub count_answer : CountAnswer → Answer
-count_answer (count-answer.Counted c) = Counted c
-count_answer count-answer.WrongLength = Number (count_number count-answer.WrongLength)
+abbrev pub count_answer : Result Counts WrongLength → Answer
+count_answer (Ok c) = Counted c
+count_answer (Err e) = Number (count_number (Err number_one))
 
 -- the answers of making a line, and of putting a message in
-abbrev pub line_answer : MakeAnswer → Answer
-line_answer make.Made = Line
-line_answer make.WrongLength = Number (make_number make.WrongLength)
-line_answer make.SeedZero = Number (make_number make.SeedZero)
+abbrev pub line_answer : Result (Unit {0}) MakeRefusal → Answer
+line_answer (Ok u) = Line
+line_answer (Err r) = Number (make_refusal_number r)
 
-abbrev pub out_answer : PutAnswer → Answer
-out_answer (put-answer.Out copies) = Out copies
-out_answer (put-answer.OutAndHeld copies n) = OutAndHeld copies n
-out_answer put-answer.WrongLength = Number (put_number put-answer.WrongLength)
+-- what comes out, with the length of a held one
+abbrev pub delivery_answer : ℕ → Option ℕ → Answer
+delivery_answer copies None = Out copies
+delivery_answer copies (Some n) = OutAndHeld copies n
+
+abbrev pub out_answer : Result Delivery WrongLength → Answer
+out_answer (Ok d) = delivery_answer d.copies d.held
+out_answer (Err e) = Number (put_number (Err e))
 
 -- `F`: a frame to the bank
 unfoldable pub frame_step : State → List ℕ → UnitCall
@@ -226,11 +227,9 @@ room_call e c i r l =
     }
 
 -- "A begin that is given a number leaves the run's payload and nonce bytes as they were; one that is not keeps them"
-abbrev pub keeps : Bool → client.Answer → Bool
-keeps begin (client-answer.Request n) = begin
-keeps begin client-answer.Ignored = begin
-keeps begin (client-answer.Closed w) = begin
-keeps begin (client-answer.Refused x) = false
+abbrev pub keeps : Bool → Result client.Answer Refusal → Bool
+keeps begin (Ok a) = begin
+keeps begin (Err x) = false
 
 abbrev pub with_client : Run → ClientRun → Run
 with_client run next = record { client = record { run = next }; nonce = run.nonce; payload = run.payload }
@@ -368,4 +367,4 @@ rooms_of m =
 unfoldable pub unit_call : State → List ℕ → UnitCall
 unit_call s r =
     let m = s.memory in
-    cond (rooms_of m) (step_of (call_of r) s r) (unchanged s (Number (frame_number frame-answer.WrongLength)))
+    cond (rooms_of m) (step_of (call_of r) s r) (unchanged s (Number (frame_number (Err number_one))))

@@ -5,7 +5,7 @@ ghost use Rattle.calendar.specs.ValueDay.{value_day};
 ghost use Rattle.bank_steps.specs.Lent.{Lent, lent};
 ghost use Rattle.bank_session.specs.Session.{count_call};
 ghost use Rattle.client_run.specs.Run.{lent_of};
-ghost use Rattle.client.specs.Calls.{call_of, begin_call};
+ghost use Rattle.client.specs.Calls.{call_of};
 ghost use Rattle.unit_state.specs.Records.{head_of, time_of, nonce_of, booking_time_of, run_of, is_run, run_count};
 ghost use Rattle.journal.specs.declared.event.Event as row-event;
 ghost use Rattle.unit_state.specs.declared.state.Run.{Run};
@@ -21,24 +21,24 @@ ghost use Rattle.unit.specs.Call.{run_step, journal_step, value_day_answer, coun
 
 use crate::images::{away_call, image_call, take_up_call};
 use crate::lines::{make_call, put_in_call};
-use bank::call::FrameAnswer;
-use bank::mailbox::FileAnswer;
+use bank::mailbox::FileRefusal;
 use bank_session::calls::{frame_core, put_file};
-use bank_session::report::{CountAnswer, count_openings};
+use bank_session::report::count_openings;
 use bank_state::limits::ID_BYTES;
 use bank_state::store::{append, file_of};
-use calendar::value_day::{ValueDay, value_day};
+use calendar::dates::Date;
+use calendar::value_day::value_day;
 use client::calls::{Client, Outcome};
-use client::journal_call::JournalAnswer;
 use client_run::run::{
-    Answer as ClientAnswer, Direction, NONCE_BYTES, RunParameters, RunTerms, order_name,
-    refusal_number,
+    Answer as ClientAnswer, NONCE_BYTES, Refusal, RunParameters, RunTerms, Word, order_name,
 };
 use journal::event::RECORD_COUNT;
+use message::directions::Direction;
 use message::editions::Edition;
 use message::limits::FILE_BYTES;
-use number_table::table::{MAILBOX_FULL, NO_MAILBOX, TOO_LATE, WRONG_FILE, WRONG_LENGTH};
+use number_table::table::{TooLate, WRONG_LENGTH, WrongLength};
 use octets::bytes::copy;
+use opening_counts::seven::Counts;
 use unit_rows::events::{ROW_SIZE, enter, journal_of};
 use unit_rows::lines::{LINES_SIZE, STORES_BYTES};
 use unit_rows::runs::{NONCES_SIZE, RUNS_SIZE, run_at, set_run};
@@ -58,59 +58,56 @@ struct RunOut {
     pub answer: Answer,
 }
 
-// What the bank's answer to a frame says.
-fn frame_answer(answer: FrameAnswer) -> Answer
+// What the bank's answer to a frame says. Functions and no `From`, here and below: both types are of crates below.
+fn frame_answer(answer: Result<usize, WrongLength>) -> Answer
     ensures { result ≡ frame_answer answer }
 {
     match answer {
-        FrameAnswer::Reply(n) => Answer::Frame(n),
-        FrameAnswer::WrongLength => Answer::Number(WRONG_LENGTH),
+        Ok(n) => Answer::Frame(n),
+        Err(refusal) => Answer::Number(refusal.into()),
     }
 }
 
 // What the bank's answer to a file says.
-fn file_answer(answer: FileAnswer) -> Answer
+fn file_answer(answer: Result<(), FileRefusal>) -> Answer
     ensures { result ≡ file_answer answer }
 {
     match answer {
-        FileAnswer::Done => Answer::Put,
-        FileAnswer::WrongLength => Answer::Number(WRONG_LENGTH),
-        FileAnswer::NoMailbox => Answer::Number(NO_MAILBOX),
-        FileAnswer::WrongFile => Answer::Number(WRONG_FILE),
-        FileAnswer::MailboxFull => Answer::Number(MAILBOX_FULL),
+        Ok(()) => Answer::Put,
+        Err(refusal) => Answer::Number(refusal.into()),
     }
 }
 
 // What a client's answer says.
-fn run_answer(answer: ClientAnswer, client: Client) -> Answer
+fn run_answer(answer: Result<ClientAnswer, Refusal>, client: Client) -> Answer
     ensures { result ≡ run_answer answer client.run }
 {
     match answer {
-        ClientAnswer::Request(n) => Answer::Request(n),
-        ClientAnswer::Ignored => Answer::Ignored,
-        ClientAnswer::Closed(w) => Answer::Closed(w, order_name(client.run)),
-        ClientAnswer::Refused(x) => Answer::Number(refusal_number(x)),
+        Ok(ClientAnswer::Request(n)) => Answer::Request(n),
+        Ok(ClientAnswer::Ignored) => Answer::Ignored,
+        Ok(ClientAnswer::Closed(w)) => Answer::Closed(w, order_name(client.run)),
+        Err(refusal) => Answer::Number(refusal.into()),
     }
 }
 
 // What a client's answer to the journal says.
-fn journal_answer(answer: JournalAnswer, client: Client) -> Answer
+fn journal_answer(answer: Result<Option<Word>, WrongLength>, client: Client) -> Answer
     ensures { result ≡ journal_answer answer client.run }
 {
     match answer {
-        JournalAnswer::Closed(w) => Answer::Closed(w, order_name(client.run)),
-        JournalAnswer::Unchanged => Answer::Unchanged,
-        JournalAnswer::WrongLength => Answer::Number(WRONG_LENGTH),
+        Ok(Some(w)) => Answer::Closed(w, order_name(client.run)),
+        Ok(None) => Answer::Unchanged,
+        Err(refusal) => Answer::Number(refusal.into()),
     }
 }
 
 // What a value day says.
-fn value_day_answer(answer: ValueDay) -> Answer
+fn value_day_answer(answer: Result<Date, TooLate>) -> Answer
     ensures { result ≡ value_day_answer answer }
 {
     match answer {
-        ValueDay::Day(date) => Answer::Day(date),
-        ValueDay::TooLate => Answer::Number(TOO_LATE),
+        Ok(date) => Answer::Day(date),
+        Err(refusal) => Answer::Number(refusal.into()),
     }
 }
 
@@ -122,12 +119,12 @@ fn value_day_call(record: &[u8]) -> Answer
 }
 
 // What the counts' answer says.
-fn count_answer(answer: CountAnswer) -> Answer
+fn count_answer(answer: Result<Counts, WrongLength>) -> Answer
     ensures { result ≡ count_answer answer }
 {
     match answer {
-        CountAnswer::Counted(c) => Answer::Counted(c),
-        CountAnswer::WrongLength => Answer::Number(WRONG_LENGTH),
+        Ok(c) => Answer::Counted(c),
+        Err(refusal) => Answer::Number(refusal.into()),
     }
 }
 
@@ -183,11 +180,8 @@ fn frame_call(
         mailboxes,
         buffer,
     );
-    let batch = c.batch;
-    enter(row, c.before, c.clock, batch);
-    let out = c.out;
-    let answer = out.answer;
-    frame_answer(answer)
+    enter(row, c.before, c.clock, c.batch);
+    frame_answer(c.out.answer)
 }
 
 // A file into a mailbox.
@@ -210,12 +204,7 @@ fn file_call(record: &[u8], rows: &mut [u64], mailboxes: &mut [u8]) -> Answer
 fn begins(event: Event) -> bool
     ensures { result ≡ begins event }
 {
-    match event {
-        Event::Upload => true,
-        Event::Download => true,
-        Event::Reply => false,
-        Event::NoReply => false,
-    }
+    matches!(event, Event::Upload | Event::Download)
 }
 
 // The nonce bytes lent to a call: the record's to a begin, those kept to a later call.
@@ -223,20 +212,14 @@ fn nonce_for(begin: bool, record: &[u8], kept: [u8; NONCE_BYTES]) -> [u8; NONCE_
     requires { begin ≡ true → head_of (Kind.Run Event.Download) ≤ length «record».now }
     ensures { result ≡ cond begin (nonce_of «record».now) kept }
 {
-    if begin {
-        return nonce_of(record);
-    }
-    kept
+    if begin { nonce_of(record) } else { kept }
 }
 
 // The payload lent to a call: the record's to a begin, the one kept to a later call.
 fn payload_for<'a>(begin: bool, body: &'a [u8], kept: &'a [u8]) -> &'a [u8]
     ensures { result.now ≡ cond begin body.now kept.now }
 {
-    if begin {
-        return body;
-    }
-    kept
+    if begin { body } else { kept }
 }
 
 // The terms that a record brings: an upload's edition and order number.
@@ -267,63 +250,46 @@ fn params_of(direction: Direction, record: &[u8]) -> RunParameters
     }
 }
 
-// Begins a client's run with what the record says.
-fn begin(
-    client: Client,
-    direction: Direction,
-    record: &[u8],
-    nonce: [u8; NONCE_BYTES],
-    payload: &[u8],
-    file: &mut [u8],
-    buffer: &mut [u8],
-) -> Outcome
-    ensures { call_of result file.new buffer.new
-        ≡ begin_call client.run (params_of direction «record».now)
-        (lent_of (time_of «record».now) nonce payload.now file.old
-        buffer.old) }
-{
-    let params = params_of(direction, record);
-    let time = number_at(record, TIME_AT, TIME_BYTES);
-    client.begin(params, time, nonce, payload, file, buffer)
+// What a call to a client's run reads: the record, the nonce bytes and the payload.
+#[derive(Clone, Copy)]
+struct Given<'a> {
+    pub record: &'a [u8],
+    pub nonce: [u8; NONCE_BYTES],
+    pub payload: &'a [u8],
 }
 
 // A client's call by the event of a record.
 fn event_call(
     event: Event,
     client: Client,
-    record: &[u8],
-    nonce: [u8; NONCE_BYTES],
-    payload: &[u8],
+    given: Given,
     file: &mut [u8],
     buffer: &mut [u8],
 ) -> Outcome
     ensures { call_of result file.new buffer.new
-        ≡ event_call event client.run «record».now
-        (lent_of (time_of «record».now) nonce payload.now file.old
+        ≡ event_call event client.run given.entry.record.now
+        (lent_of (time_of given.entry.record.now) given.entry.nonce given.entry.payload.now file.old
         buffer.old) }
 {
+    let Given {
+        record,
+        nonce,
+        payload,
+    } = given;
     let time = number_at(record, TIME_AT, TIME_BYTES);
-    let body = body_of(Kind::Run(event), record);
     match event {
-        Event::Upload => begin(
-            client,
-            Direction::Upload,
-            record,
-            nonce,
-            payload,
-            file,
-            buffer,
-        ),
-        Event::Download => begin(
-            client,
-            Direction::Download,
-            record,
-            nonce,
-            payload,
-            file,
-            buffer,
-        ),
-        Event::Reply => client.reply(body, time, nonce, payload, file, buffer),
+        Event::Upload => {
+            let params = params_of(Direction::Upload, record);
+            client.begin(params, time, nonce, payload, file, buffer)
+        }
+        Event::Download => {
+            let params = params_of(Direction::Download, record);
+            client.begin(params, time, nonce, payload, file, buffer)
+        }
+        Event::Reply => {
+            let body = body_of(Kind::Run(Event::Reply), record);
+            client.reply(body, time, nonce, payload, file, buffer)
+        }
         Event::NoReply => client.no_reply(time, nonce, payload, file, buffer),
     }
 }
@@ -333,53 +299,33 @@ fn room_call(
     event: Event,
     client: Client,
     i: usize,
-    record: &[u8],
-    nonce: [u8; NONCE_BYTES],
-    payload: &[u8],
+    given: Given,
     files: &mut [u8],
     buffer: &mut [u8],
 ) -> Outcome
     requires { (i < run_count) × (length files.old ≡ rooms_bytes) }
     ensures { call_of result files.new buffer.new
-        ≡ room_call event client.run i «record».now
-        (lent_of (time_of «record».now) nonce payload.now files.old
+        ≡ room_call event client.run i given.entry.record.now
+        (lent_of (time_of given.entry.record.now) given.entry.nonce given.entry.payload.now files.old
         buffer.old) }
 {
     let from = i * FILE_BYTES;
     let end = from + FILE_BYTES;
-    event_call(
-        event,
-        client,
-        record,
-        nonce,
-        payload,
-        &mut files[from..end],
-        buffer,
-    )
+    event_call(event, client, given, &mut files[from..end], buffer)
 }
 
 // Whether a call keeps its nonce bytes and payload: a begin that was given no number.
-fn keeps(begin: bool, answer: ClientAnswer) -> bool
+fn keeps(begin: bool, answer: Result<ClientAnswer, Refusal>) -> bool
     ensures { result ≡ keeps begin answer }
 {
-    match answer {
-        ClientAnswer::Request(_) => begin,
-        ClientAnswer::Ignored => begin,
-        ClientAnswer::Closed(_) => begin,
-        ClientAnswer::Refused(_) => false,
-    }
+    begin && answer.is_ok()
 }
 
 // The run with its client's next record; what it keeps stays.
 fn with_client(run: Run, client: Client) -> Run
     ensures { result ≡ with_client run client.run }
 {
-    let nonce = run.nonce;
-    Run {
-        client,
-        nonce,
-        payload: run.payload,
-    }
+    Run { client, ..run }
 }
 
 // The run after a call.
@@ -387,13 +333,14 @@ fn next_run(kept: bool, run: Run, client: Client, nonce: [u8; NONCE_BYTES], payl
     ensures { result ≡ next_run kept run client.run nonce payload }
 {
     if kept {
-        return Run {
+        Run {
             client,
             nonce,
             payload,
-        };
+        }
+    } else {
+        with_client(run, client)
     }
-    with_client(run, client)
 }
 
 // Keeps the payload of a begin in the room of run i.
@@ -423,29 +370,22 @@ fn run_event(
         ≡ run_call event i run (memory bank payloads.old files.old buffer.old room l)
         «record».now }
 {
-    let client = run.client;
-    let held = run.nonce;
     let begin = begins(event);
-    let nonce = nonce_for(begin, record, held);
+    let nonce = nonce_for(begin, record, run.nonce);
     let body = body_of(Kind::Run(event), record);
-    let o = room_call(
-        event,
-        client,
-        i,
+    let payload = payload_for(begin, body, file_of(payloads, i, run.payload));
+    let given = Given {
         record,
         nonce,
-        payload_for(begin, body, file_of(payloads, i, run.payload)),
-        files,
-        buffer,
-    );
-    let answer = o.answer;
-    let after = o.client;
-    let kept = keeps(begin, answer);
+        payload,
+    };
+    let o = room_call(event, run.client, i, given, files, buffer);
+    let kept = keeps(begin, o.answer);
     keep_payload(kept, payloads, i, body);
-    let next = next_run(kept, run, after, nonce, body.len() as u64);
+    let next = next_run(kept, run, o.client, nonce, body.len() as u64);
     RunOut {
         run: next,
-        answer: run_answer(answer, after),
+        answer: run_answer(o.answer, o.client),
     }
 }
 
@@ -470,8 +410,7 @@ fn run_call(
     let i = index_of(record);
     let run = run_at(runs, nonces, i);
     let o = run_event(run, i, event, record, payloads, files, buffer);
-    let next = o.run;
-    set_run(runs, nonces, i, next);
+    set_run(runs, nonces, i, o.run);
     o.answer
 }
 
@@ -490,35 +429,26 @@ fn journal_call(
 {
     let i = index_of(record);
     let run = run_at(runs, nonces, i);
-    let client = run.client;
     let held = journal_of(row);
-    let o = client.journal_held(held);
-    let after = o.client;
-    let answer = o.answer;
-    set_run(runs, nonces, i, with_client(run, after));
-    journal_answer(answer, after)
+    let o = run.client.journal_held(held);
+    set_run(runs, nonces, i, with_client(run, o.client));
+    journal_answer(o.answer, o.client)
 }
 
 // Whether the rooms lent for the runs, for images and for the lines are of their lengths.
+#[tactic(auto, unfolding(crate::specs::Call::rooms_right))]
 fn rooms_right(payloads: usize, files: usize, room: usize, lines: usize, stores: usize) -> bool
     ensures { result ≡ rooms_right payloads files room lines stores }
 {
-    if payloads != ROOMS_BYTES {
-        return false;
-    }
-    if files != ROOMS_BYTES {
-        return false;
-    }
-    if room != ROOM_BYTES {
-        return false;
-    }
-    if lines != LINES_SIZE {
-        return false;
-    }
-    stores == STORES_BYTES
+    payloads == ROOMS_BYTES
+        && files == ROOMS_BYTES
+        && room == ROOM_BYTES
+        && lines == LINES_SIZE
+        && stores == STORES_BYTES
 }
 
-// One call of a record on the unit. Rooms of another length get number 1.
+// One call of a record on the unit. Rooms of another length get number 1. Each call below is lent the parts that it
+// uses, and its contract says by their absence that the others stay.
 pub fn call(
     runs: &mut [u64; RUNS_SIZE],
     nonces: &mut [u8; NONCES_SIZE],

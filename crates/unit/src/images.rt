@@ -11,33 +11,30 @@ ghost use Rattle.unit.specs.State.{memory, state_of};
 ghost use Rattle.unit.specs.Call.{after_call, away_answer, taken_up_answer};
 ghost use Rattle.unit.specs.Call.{away_step, take_up_step, image_step};
 
-use image_calls::calls::{Away, TakenUp};
+use image::codec::ImageRefusal;
 use image_calls::held::{put_away_held, take_up_held};
-use number_table::table::{NOT_ADMITTED, WRONG_LENGTH};
 use octets::bytes::{copy, front};
 use unit_rows::events::{ROW_SIZE, journal_of, set_journal};
 use unit_state::answer::Answer;
 use unit_state::record::{Kind, body_of, lent_length, offset_of};
 
 // What the answer of putting away says.
-fn away_answer(answer: Away) -> Answer
+fn away_answer(answer: Result<usize, ImageRefusal>) -> Answer
     ensures { result ≡ away_answer answer }
 {
     match answer {
-        Away::Length(n) => Answer::Away(n),
-        Away::WrongLength => Answer::Number(WRONG_LENGTH),
-        Away::NotAdmitted => Answer::Number(NOT_ADMITTED),
+        Ok(n) => Answer::Away(n),
+        Err(refusal) => Answer::Number(refusal.into()),
     }
 }
 
 // What the answer of taking up says.
-fn taken_up_answer(answer: TakenUp) -> Answer
+fn taken_up_answer(answer: Result<(), ImageRefusal>) -> Answer
     ensures { result ≡ taken_up_answer answer }
 {
     match answer {
-        TakenUp::Done => Answer::TakenUp,
-        TakenUp::WrongLength => Answer::Number(WRONG_LENGTH),
-        TakenUp::NotAdmitted => Answer::Number(NOT_ADMITTED),
+        Ok(()) => Answer::TakenUp,
+        Err(refusal) => Answer::Number(refusal.into()),
     }
 }
 
@@ -85,10 +82,8 @@ pub(crate) fn take_up_call(
     let n = lent_length(record);
     let held = journal_of(row);
     let o = take_up_held(rows, held, orders, mailboxes, front(room, n));
-    let next = o.row;
-    let answer = o.answer;
-    set_journal(row, next);
-    taken_up_answer(answer)
+    set_journal(row, o.row);
+    taken_up_answer(o.answer)
 }
 
 // The record's bytes go into the image room.

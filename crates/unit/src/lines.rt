@@ -7,8 +7,8 @@ ghost use Rattle.unit_rows.specs.Lines.{lines_size, stores_bytes, lines_of};
 ghost use Rattle.unit.specs.State.{memory, state_of};
 ghost use Rattle.unit.specs.Call.{after_call, line_answer, out_answer, line_index, make_step, put_in_step};
 
-use line::calls::{MakeAnswer, PutAnswer};
-use number_table::table::{SEED_ZERO, WRONG_LENGTH};
+use line::calls::{Delivery, MakeRefusal};
+use number_table::table::WrongLength;
 use unit_rows::lines::{is_made, make_at, put_at};
 use unit_state::answer::Answer;
 use unit_state::record::{
@@ -16,24 +16,28 @@ use unit_state::record::{
 };
 
 // What the answer of making a line says.
-fn line_answer(answer: MakeAnswer) -> Answer
+fn line_answer(answer: Result<(), MakeRefusal>) -> Answer
     ensures { result ≡ line_answer answer }
 {
     match answer {
-        MakeAnswer::Made => Answer::Line,
-        MakeAnswer::WrongLength => Answer::Number(WRONG_LENGTH),
-        MakeAnswer::SeedZero => Answer::Number(SEED_ZERO),
+        Ok(()) => Answer::Line,
+        Err(refusal) => Answer::Number(refusal.into()),
     }
 }
 
 // What the answer of putting a message in says.
-fn out_answer(answer: PutAnswer) -> Answer
+fn out_answer(answer: Result<Delivery, WrongLength>) -> Answer
     ensures { result ≡ out_answer answer }
 {
     match answer {
-        PutAnswer::Out(copies) => Answer::Out(copies),
-        PutAnswer::OutAndHeld(copies, n) => Answer::OutAndHeld(copies, n),
-        PutAnswer::WrongLength => Answer::Number(WRONG_LENGTH),
+        Ok(Delivery { copies, held: None }) => Answer::Out(copies),
+        Ok(
+            Delivery {
+                copies,
+                held: Some(n),
+            },
+        ) => Answer::OutAndHeld(copies, n),
+        Err(refusal) => Answer::Number(refusal.into()),
     }
 }
 

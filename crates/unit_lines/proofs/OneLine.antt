@@ -1,4 +1,5 @@
 -- One line after a call on it: made, it is the line from the seed; a message put in follows the line. Assumes nothing.
+use Rattle.std.specs.Prelude.{Ok, Err}
 use Prim.Native.Nat.{ℕ, ◌≤◌, ◌<◌}
 use mathlib.Core.Bool.{Bool, true, false, cond, not}
 use mathlib.Core.List.{List}
@@ -8,8 +9,8 @@ use lib.Dec.{eqb, leb}
 use lib.ListN.{length}
 use borrow.Author.Tests.{eq-eqb, ne_eqb, leb-true, leb-false}
 use Rattle.octets.proofs.Tests.{never}
-use Rattle.line.specs.declared.calls.MakeAnswer.TheVariants as make
-use Rattle.line.specs.declared.calls.PutAnswer.TheVariants.{WrongLength}
+use Rattle.number_table.specs.Numbers.{number_one}
+use Rattle.line.specs.declared.calls.MakeRefusal.TheVariants as make
 use Rattle.line.specs.Generator.{value_limit}
 use Rattle.line.specs.Line.{Message, message_bytes, Line, made, put}
 use Rattle.line.specs.Memory.{row_size, store_bytes, row_of}
@@ -43,7 +44,7 @@ module _ (m : Lines) (long : length m.rows ≡ lines_size) (wide : length m.stor
   -- ---- made
 
   module _ (seed : ℕ) where
-    made-answer : eqb seed 0 ≡ false → (make_call row store seed).answer ≡ make.Made
+    made-answer : eqb seed 0 ≡ false → (make_call row store seed).answer ≡ Ok tt
     unfolding make_call
     made-answer e =
         rw (eq-eqb (length row) row_size (row-long m.rows long i h), eq-eqb (length store) store_bytes (store_long m.stores wide i h), e)
@@ -76,7 +77,7 @@ module _ (m : Lines) (long : length m.rows ≡ lines_size) (wide : length m.stor
     k = put_call row store x buffer
 
     -- a message over 1,024 bytes changes nothing
-    pub too_long : message_bytes < length x → k ≡ put_call_of WrongLength row store buffer
+    pub too_long : message_bytes < length x → k ≡ put_call_of (Err number_one) row store buffer
     too_long o = (follows l x row store buffer v).refused (λ b. omega (arith, b.0))
 
     put-at : (t : Bool) → leb (length x) message_bytes ≡ t → IsUsed (cond t (used (put l x).next) (used l)) (put_at m i x buffer).lines i

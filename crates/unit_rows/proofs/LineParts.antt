@@ -1,5 +1,7 @@
 -- Laws of the lines' rows and stores: a part lent and come back, and the call on a line from the call on its parts.
 -- Assumes nothing.
+use Rattle.line.specs.declared.calls.MakeRefusal.{MakeRefusal}
+use Rattle.std.specs.Prelude.{Result}
 use Prim.Native.Nat.{ℕ, ◌+◌, ◌-◌, ◌*◌, ◌≤◌}
 use mathlib.Core.List.{List}
 use mathlib.Core.Path.{◌≡◌, ◌∙◌}
@@ -9,8 +11,8 @@ use lib.ListN.{length, get_or, drop}
 use lib.Seq.{get_or-drop, get_or-take}
 use borrow.Rule.Slice.PartMut.{put_mid, mid_of}
 use Rattle.bank_state.proofs.Stores.{part-back}
-use Rattle.line.specs.declared.calls.MakeAnswer.{MakeAnswer}
-use Rattle.line.specs.declared.calls.PutAnswer.{PutAnswer}
+use Rattle.number_table.specs.declared.table.WrongLength.{WrongLength}
+use Rattle.line.specs.declared.calls.Delivery.{Delivery}
 use Rattle.line.specs.Memory.{value_at, row_size, store_bytes}
 use Rattle.line.specs.Calls.{make_call_of, make_call, put_call_of, put_call}
 use Rattle.unit_rows.specs.Lines.{lines_of, row_at, store_at, with_row, with_store, made_at_of, made_at, put_at_of, put_at}
@@ -44,7 +46,7 @@ unfolding with_store
 store-back stores x i h e = part-back stores x (i * store_bytes) store_bytes h e
 
 -- line i is made by the call on its parts
-pub made-parts : (rows stores : List ℕ) (i seed : ℕ) (a : MakeAnswer) (row store row' rows' : List ℕ)
+pub made-parts : (rows stores : List ℕ) (i seed : ℕ) (a : Result (Unit {0}) MakeRefusal) (row store row' rows' : List ℕ)
     → row ≡ row_at rows i → store ≡ store_at stores i → rows' ≡ with_row rows i row'
     → make_call_of a row' ≡ make_call row store seed
     → made_at_of a (lines_of rows' stores) ≡ made_at (lines_of rows stores) i seed
@@ -52,7 +54,7 @@ unfolding made_at
 made-parts rows stores i seed a row store row' rows' er es eb e = rw (eb, ← er, ← es, ← e)
 
 -- a message is put into line i by the call on its parts
-pub put-parts : (rows stores : List ℕ) (i : ℕ) (message buffer : List ℕ) (a : PutAnswer)
+pub put-parts : (rows stores : List ℕ) (i : ℕ) (message buffer : List ℕ) (a : Result Delivery WrongLength)
     (row store row' store' buffer' rows' stores' : List ℕ)
     → row ≡ row_at rows i → store ≡ store_at stores i → rows' ≡ with_row rows i row' → stores' ≡ with_store stores i store'
     → put_call_of a row' store' buffer' ≡ put_call row store message buffer

@@ -24,8 +24,8 @@ use Rattle.image_numbers.specs.Numbers.{event_numbers, kind_of, event_of}
 use Rattle.image_numbers.proofs.Laws.{event-back}
 use Rattle.message.specs.declared.editions.Edition.{Edition}
 use Rattle.message.specs.declared.editions.Edition.TheVariants.{V24, V25}
-use Rattle.client_run.specs.declared.run.Direction.{Direction}
-use Rattle.client_run.specs.declared.run.Direction.TheVariants.{Upload, Download}
+use Rattle.message.specs.declared.directions.Direction.{Direction}
+use Rattle.message.specs.declared.directions.Direction.TheVariants.{Upload, Download}
 use Rattle.client_run.specs.declared.run.Stage.{Stage}
 use Rattle.client_run.specs.declared.run.Stage.TheVariants.{NotBegun, Running, Ended}
 use Rattle.client_run.specs.declared.run.Step.{Step}

@@ -1,8 +1,10 @@
 -- The unit's 32 lines in lent memory: of each a row of numbers, and a store for the messages that it holds.
+use Rattle.line.specs.declared.calls.MakeRefusal.{MakeRefusal}
+use Rattle.std.specs.Prelude.{Result}
 use Rattle.std.specs.Prelude.{ℕ, ◌*◌, Bool, not, List, eqb, get_or, take, drop}
 use Rattle.octets.specs.Bytes.{overwrite}
-use Rattle.line.specs.declared.calls.MakeAnswer.{MakeAnswer}
-use Rattle.line.specs.declared.calls.PutAnswer.{PutAnswer}
+use Rattle.number_table.specs.declared.table.WrongLength.{WrongLength}
+use Rattle.line.specs.declared.calls.Delivery.{Delivery}
 use Rattle.line.specs.Line.{Message}
 use Rattle.line.specs.Memory.{value_at, row_size, store_bytes}
 use Rattle.line.specs.Calls.{make_call, put_call}
@@ -43,10 +45,10 @@ is_made row = not (eqb (get_or row value_at 0) 0)
 -- ---- line i is made from a seed
 
 pub record MadeAt : Type 0 where
-  pub answer : MakeAnswer
+  pub answer : Result (Unit {0}) MakeRefusal
   pub lines : Lines
 
-abbrev pub made_at_of : MakeAnswer → Lines → MadeAt
+abbrev pub made_at_of : Result (Unit {0}) MakeRefusal → Lines → MadeAt
 made_at_of a m = record { answer = a; lines = m }
 
 unfoldable pub made_at : Lines → ℕ → ℕ → MadeAt
@@ -57,11 +59,11 @@ made_at m i seed =
 -- ---- a message is put into line i
 
 pub record PutAt : Type 0 where
-  pub answer : PutAnswer
+  pub answer : Result Delivery WrongLength
   pub lines : Lines
   pub buffer : List ℕ
 
-abbrev pub put_at_of : PutAnswer → Lines → List ℕ → PutAt
+abbrev pub put_at_of : Result Delivery WrongLength → Lines → List ℕ → PutAt
 put_at_of a m buffer = record { answer = a; lines = m; buffer = buffer }
 
 unfoldable pub put_at : Lines → ℕ → Message → List ℕ → PutAt

@@ -1,32 +1,26 @@
-// What a client run holds besides numbers, each as a number, and back.
+// What a client run holds besides numbers, each as a number, and back. Functions and no `From`: all these types are of
+// crates below.
 ghost use Rattle.std.specs.Prelude.{◌≡◌};
-ghost use Rattle.unit_rows.specs.Codes.{number_of_word, number_of_stage, stage_of, number_of_direction, direction_of};
+ghost use Rattle.unit_rows.specs.Codes.{number_of_stage, stage_of, number_of_direction, direction_of};
 ghost use Rattle.unit_rows.specs.Codes.{number_of_step, step_of, number_of_edition};
 
-use client_run::run::{Direction, Stage, Step, Word};
+use client_run::run::{Stage, Step, Word};
+use message::directions::Direction;
 use message::editions::Edition;
 
-// The number of a run that ended with this closing word.
-fn number_of_word(word: Word) -> u64
-    ensures { result ≡ number_of_word word }
-{
-    match word {
-        Word::Lodged => 2,
-        Word::NotLodged => 3,
-        Word::Unclear => 4,
-        Word::Fetched => 5,
-        Word::HeldUnconfirmed => 6,
-        Word::NotFetched => 7,
-    }
-}
-
+// 0 not begun, 1 running, from 2 on ended with a closing word.
 pub(crate) fn number_of_stage(stage: Stage) -> u64
     ensures { result ≡ number_of_stage stage }
 {
     match stage {
         Stage::NotBegun => 0,
         Stage::Running => 1,
-        Stage::Ended(word) => number_of_word(word),
+        Stage::Ended(Word::Lodged) => 2,
+        Stage::Ended(Word::NotLodged) => 3,
+        Stage::Ended(Word::Unclear) => 4,
+        Stage::Ended(Word::Fetched) => 5,
+        Stage::Ended(Word::HeldUnconfirmed) => 6,
+        Stage::Ended(Word::NotFetched) => 7,
     }
 }
 

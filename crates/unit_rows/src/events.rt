@@ -19,7 +19,6 @@ pub fn record_at(row: &[u64; ROW_SIZE], i: usize) -> Event
     ensures { result ≡ get_or (journal_from row.now) i no_event }
 {
     let at = EVENT_WIDTH * i;
-    let kind = kind_of(row[at + 7]);
     Event {
         number: row[at],
         clock: row[at + 1],
@@ -28,7 +27,7 @@ pub fn record_at(row: &[u64; ROW_SIZE], i: usize) -> Event
         order: row[at + 4],
         high: row[at + 5],
         low: row[at + 6],
-        kind,
+        kind: kind_of(row[at + 7]),
     }
 }
 
@@ -40,24 +39,18 @@ fn set_record(row: &mut [u64; ROW_SIZE], i: usize, e: Event)
     put_event(e, row, EVENT_WIDTH * i);
 }
 
-// The events of one call are entered after so many others, as `journal::row::enter` does on records.
+// The events of one call are entered after so many others, as `journal::row::enter` does on records. No generic form of
+// both: a trait of rows with its laws is longer than these two loops.
 pub fn enter(row: &mut [u64; ROW_SIZE], events: u64, clock: u64, batch: Batch)
     ensures { journal_from row.new ≡ row_after events clock batch (journal_from row.old) }
 {
     let places = places_of(RECORD_COUNT, events, batch.count);
-    let by = places.by;
-    let start = places.start;
-    let end = places.end;
-    let mut i = places.first;
-    while i < start {
-        let e = record_at(row, i + by);
+    for i in places.first..places.start {
+        let e = record_at(row, i + places.by);
         set_record(row, i, e);
-        i += 1;
     }
-    while i < end {
-        let e = event_at(events, clock, batch, i - start);
-        set_record(row, i, e);
-        i += 1;
+    for i in places.start..places.end {
+        set_record(row, i, event_at(events, clock, batch, i - places.start));
     }
 }
 
@@ -65,12 +58,10 @@ pub fn enter(row: &mut [u64; ROW_SIZE], events: u64, clock: u64, batch: Batch)
 pub fn journal_of(row: &[u64; ROW_SIZE]) -> [Event; RECORD_COUNT]
     ensures { result ≡ journal_from row.now }
 {
-    let first = record_at(row, 0);
-    let mut held = [first; RECORD_COUNT];
-    let mut i = 0;
-    while i < RECORD_COUNT {
+    let mut held = [record_at(row, 0); RECORD_COUNT];
+    // Indices, since each also names a record of the row's numbers.
+    for i in 0..RECORD_COUNT {
         held[i] = record_at(row, i);
-        i += 1;
     }
     held
 }
@@ -79,9 +70,7 @@ pub fn journal_of(row: &[u64; ROW_SIZE]) -> [Event; RECORD_COUNT]
 pub fn set_journal(row: &mut [u64; ROW_SIZE], held: [Event; RECORD_COUNT])
     ensures { journal_from row.new ≡ held }
 {
-    let mut i = 0;
-    while i < RECORD_COUNT {
+    for i in 0..RECORD_COUNT {
         set_record(row, i, held[i]);
-        i += 1;
     }
 }

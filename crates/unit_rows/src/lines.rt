@@ -4,8 +4,9 @@ ghost use Rattle.unit_state.specs.Records.{line_count};
 ghost use Rattle.unit_rows.specs.Lines.{lines_size, stores_bytes, lines_of, row_at, is_made};
 ghost use Rattle.unit_rows.specs.Lines.{made_at_of, made_at, put_at_of, put_at};
 
-use line::calls::{MakeAnswer, PutAnswer, make_line, put_in};
+use line::calls::{Delivery, MakeRefusal, make_line, put_in};
 use line::layout::{ROW_SIZE, STORE_BYTES, VALUE_AT};
+use number_table::table::WrongLength;
 use unit_state::record::LINE_COUNT;
 
 // The numbers of all lines, and the bytes of all their stores.
@@ -22,7 +23,7 @@ pub fn is_made(rows: &[u64], i: usize) -> bool
 }
 
 // Line i is made from a seed.
-pub fn make_at(rows: &mut [u64], stores: &[u8], i: usize, seed: u32) -> MakeAnswer
+pub fn make_at(rows: &mut [u64], stores: &[u8], i: usize, seed: u32) -> Result<(), MakeRefusal>
     requires { (i < line_count) × (length rows.old ≡ lines_size) × (length stores.now ≡ stores_bytes) }
     ensures { made_at_of result (lines_of rows.new stores.now)
         ≡ made_at (lines_of rows.old stores.now) i seed }
@@ -41,7 +42,7 @@ pub fn put_at(
     i: usize,
     message: &[u8],
     buffer: &mut [u8],
-) -> PutAnswer
+) -> Result<Delivery, WrongLength>
     requires { (i < line_count) × (length rows.old ≡ lines_size) × (length stores.old ≡ stores_bytes) }
     ensures { put_at_of result (lines_of rows.new stores.new) buffer.new
         ≡ put_at (lines_of rows.old stores.old) i message.now buffer.old }

@@ -30,27 +30,21 @@ fn client_at(runs: &[u64; RUNS_SIZE], i: usize) -> ClientRun
     ensures { result ≡ client_of (take run_width (drop (run_width * i) runs.now)) }
 {
     let at = RUN_WIDTH * i;
-    let stage = stage_of(runs[at]);
-    let direction = direction_of(runs[at + 1]);
-    let step = step_of(runs[at + 2]);
-    let edition = edition_of(runs[at + 6]);
-    let terms = RunTerms {
-        edition,
-        number: runs[at + 7],
-    };
-    let transaction = Bits128 {
-        high: runs[at + 8],
-        low: runs[at + 9],
-    };
     ClientRun {
-        stage,
-        direction,
-        step,
+        stage: stage_of(runs[at]),
+        direction: direction_of(runs[at + 1]),
+        step: step_of(runs[at + 2]),
         subscriber: runs[at + 3],
         exchange: runs[at + 4],
         repeats: runs[at + 5],
-        terms,
-        transaction,
+        terms: RunTerms {
+            edition: edition_of(runs[at + 6]),
+            number: runs[at + 7],
+        },
+        transaction: Bits128 {
+            high: runs[at + 8],
+            low: runs[at + 9],
+        },
         number: runs[at + 10],
         length: runs[at + 11],
         segments: runs[at + 12],
@@ -87,20 +81,15 @@ fn put_run(runs: &mut [u64; RUNS_SIZE], i: usize, run: Run)
         × (runs.new ≡ overwrite runs.old (run_width * i) (run_numbers run)) }
 {
     let c = run.client.run;
-    let stage = c.stage;
-    let direction = c.direction;
-    let step = c.step;
-    let terms = c.terms;
-    let edition = terms.edition;
     let numbers = [
-        number_of_stage(stage),
-        number_of_direction(direction),
-        number_of_step(step),
+        number_of_stage(c.stage),
+        number_of_direction(c.direction),
+        number_of_step(c.step),
         c.subscriber,
         c.exchange,
         c.repeats,
-        number_of_edition(edition),
-        terms.number,
+        number_of_edition(c.terms.edition),
+        c.terms.number,
         c.transaction.high,
         c.transaction.low,
         c.number,
@@ -120,6 +109,5 @@ pub fn set_run(runs: &mut [u64; RUNS_SIZE], nonces: &mut [u8; NONCES_SIZE], i: u
         ≡ set (runs_from runs.old nonces.old) i run }
 {
     put_run(runs, i, run);
-    let nonce = run.nonce;
-    copy(nonces, NONCE_BYTES * i, &nonce);
+    copy(nonces, NONCE_BYTES * i, &run.nonce);
 }

@@ -11,12 +11,10 @@ use unit_state::state::{Run, UnitState};
 fn runs_of(runs: &[u64; RUNS_SIZE], nonces: &[u8; NONCES_SIZE]) -> [Run; RUN_COUNT]
     ensures { result ≡ runs_from runs.now nonces.now }
 {
-    let first = run_at(runs, nonces, 0);
-    let mut held = [first; RUN_COUNT];
-    let mut i = 0;
-    while i < RUN_COUNT {
+    let mut held = [run_at(runs, nonces, 0); RUN_COUNT];
+    // Indices, since each also names a run of the numbers.
+    for i in 0..RUN_COUNT {
         held[i] = run_at(runs, nonces, i);
-        i += 1;
     }
     held
 }
@@ -29,10 +27,8 @@ pub fn unit_of(
 ) -> UnitState
     ensures { result ≡ unit_from runs.now nonces.now row.now }
 {
-    let held = runs_of(runs, nonces);
-    let journal = journal_of(row);
     UnitState {
-        runs: held,
-        journal,
+        runs: runs_of(runs, nonces),
+        journal: journal_of(row),
     }
 }

@@ -36,22 +36,5 @@ pub enum Answer {
 pub fn is_answer(answer: Answer) -> bool
     ensures { result ≡ is_answer answer }
 {
-    match answer {
-        Answer::Frame(_) => true,
-        Answer::Put => true,
-        Answer::Request(_) => true,
-        Answer::Ignored => true,
-        Answer::Closed(_, _) => true,
-        Answer::Unchanged => true,
-        Answer::Away(_) => true,
-        Answer::TakenUp => true,
-        Answer::Room => true,
-        Answer::Day(_) => true,
-        Answer::Line => true,
-        Answer::Out(_) => true,
-        Answer::OutAndHeld(_, _) => true,
-        Answer::Counted(_) => true,
-        Answer::Number(_) => true,
-        Answer::NoCall => false,
-    }
+    !matches!(answer, Answer::NoCall)
 }

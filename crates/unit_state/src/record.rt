@@ -111,6 +111,7 @@ pub enum Kind {
 }
 
 // The kind of a letter.
+#[tactic(auto, unfolding(crate::specs::Records::kind_of))]
 pub fn kind_of(letter: u8) -> Kind
     ensures { result ≡ kind_of letter }
 {
@@ -133,18 +134,6 @@ pub fn kind_of(letter: u8) -> Kind
     }
 }
 
-// The bytes of a client run's record before those that its length counts.
-fn run_head_of(event: Event) -> usize
-    ensures { result ≡ head_of (Kind.Run event) }
-{
-    match event {
-        Event::Upload => UPLOAD_HEAD,
-        Event::Download => NONCE_AT + NONCE_BYTES,
-        Event::Reply => TIME_AT + TIME_BYTES + SIZE_BYTES,
-        Event::NoReply => TIME_AT + TIME_BYTES,
-    }
-}
-
 // The bytes of a record before those that its length counts.
 pub fn head_of(kind: Kind) -> usize
     ensures { result ≡ head_of kind }
@@ -152,28 +141,17 @@ pub fn head_of(kind: Kind) -> usize
     match kind {
         Kind::Frame => IDS_AT + ID_BYTES + SIZE_BYTES,
         Kind::File => MAILBOX_AT + MAILBOX_BYTES + SIZE_BYTES,
-        Kind::Run(event) => run_head_of(event),
+        Kind::Run(Event::Upload) => UPLOAD_HEAD,
+        Kind::Run(Event::Download) => NONCE_AT + NONCE_BYTES,
+        Kind::Run(Event::Reply) => TIME_AT + TIME_BYTES + SIZE_BYTES,
+        Kind::Run(Event::NoReply) => TIME_AT + TIME_BYTES,
         Kind::Journal => RUN_NUMBER_AT + RUN_BYTES,
-        Kind::Away => EXTENT_AT + EXTENT_BYTES,
-        Kind::TakeUp => EXTENT_AT + EXTENT_BYTES,
+        Kind::Away | Kind::TakeUp => EXTENT_AT + EXTENT_BYTES,
         Kind::Image => EXTENT_AT + EXTENT_BYTES + SIZE_BYTES,
         Kind::ValueDay => BOOKING_AT + TIME_BYTES,
         Kind::MakeLine => SEED_AT + SEED_BYTES,
         Kind::PutIn => LINE_NUMBER_AT + LINE_BYTES + SIZE_BYTES,
-        Kind::Counts => LETTER_BYTES,
-        Kind::NoCall => LETTER_BYTES,
-    }
-}
-
-// Whether a length stands at the end of the head of a client run's record.
-fn run_has_length(event: Event) -> bool
-    ensures { result ≡ has_length (Kind.Run event) }
-{
-    match event {
-        Event::Upload => true,
-        Event::Download => false,
-        Event::Reply => true,
-        Event::NoReply => false,
+        Kind::Counts | Kind::NoCall => LETTER_BYTES,
     }
 }
 
@@ -181,20 +159,14 @@ fn run_has_length(event: Event) -> bool
 fn has_length(kind: Kind) -> bool
     ensures { result ≡ has_length kind }
 {
-    match kind {
-        Kind::Frame => true,
-        Kind::File => true,
-        Kind::Run(event) => run_has_length(event),
-        Kind::Journal => false,
-        Kind::Away => false,
-        Kind::TakeUp => false,
-        Kind::Image => true,
-        Kind::ValueDay => false,
-        Kind::MakeLine => false,
-        Kind::PutIn => true,
-        Kind::Counts => false,
-        Kind::NoCall => false,
-    }
+    matches!(
+        kind,
+        Kind::Frame
+            | Kind::File
+            | Kind::Run(Event::Upload | Event::Reply)
+            | Kind::Image
+            | Kind::PutIn
+    )
 }
 
 // At most n bytes of a record from a place on.
@@ -205,6 +177,7 @@ pub fn bytes_at(s: &[u8], from: usize, n: usize) -> &[u8]
 }
 
 // The number of at most 8 bytes from a place on.
+#[tactic(auto, unfolding(crate::specs::Records::number_at))]
 pub fn number_at(s: &[u8], from: usize, n: usize) -> u64
     requires { n ≤ 8 }
     ensures { result ≡ number_at from n s.now }
@@ -213,13 +186,15 @@ pub fn number_at(s: &[u8], from: usize, n: usize) -> u64
 }
 
 // What the length of a record says, 0 where it has none.
+#[tactic(auto, unfolding(crate::specs::Records::size_of))]
 pub fn size_of(kind: Kind, s: &[u8]) -> usize
     ensures { result ≡ size_of kind s.now }
 {
-    if !has_length(kind) {
-        return 0;
+    if has_length(kind) {
+        number_at(s, head_of(kind) - SIZE_BYTES, SIZE_BYTES) as usize
+    } else {
+        0
     }
-    number_at(s, head_of(kind) - SIZE_BYTES, SIZE_BYTES) as usize
 }
 
 // How many bytes of the image room a session is put away into, or taken up from.
@@ -229,7 +204,7 @@ pub fn lent_length(s: &[u8]) -> usize
     number_at(s, EXTENT_AT, EXTENT_BYTES) as usize
 }
 
-// Where a record's bytes go in the image room.
+// Where a record's bytes go in the image room. The bytes of `lent_length`: what they say goes by the record's kind.
 pub fn offset_of(s: &[u8]) -> usize
     ensures { result ≡ offset_of s.now }
 {
@@ -237,6 +212,7 @@ pub fn offset_of(s: &[u8]) -> usize
 }
 
 // The frame, file, payload, reply, bytes or message of a record.
+#[tactic(auto, unfolding(crate::specs::Records::body_of))]
 pub fn body_of(kind: Kind, s: &[u8]) -> &[u8]
     ensures { result.now ≡ body_of kind s.now }
 {
@@ -247,10 +223,7 @@ pub fn body_of(kind: Kind, s: &[u8]) -> &[u8]
 fn is_run(n: u64) -> bool
     ensures { result ≡ is_run n }
 {
-    if n < 1 {
-        return false;
-    }
-    n <= RUN_COUNT as u64
+    (1..=RUN_COUNT as u64).contains(&n)
 }
 
 // Whether an edition is one of the two.
@@ -276,40 +249,22 @@ fn has_edition(event: Event, s: &[u8]) -> bool
 {
     match event {
         Event::Upload => is_edition(number_at(s, EDITION_AT, EDITION_BYTES)),
-        Event::Download => true,
-        Event::Reply => true,
-        Event::NoReply => true,
+        Event::Download | Event::Reply | Event::NoReply => true,
     }
-}
-
-// Whether there is what a client run's record names: its run, and its edition.
-fn is_run_within(event: Event, s: &[u8]) -> bool
-    ensures { result ≡ is_within (Kind.Run event) s.now }
-{
-    if !is_run(number_at(s, RUN_NUMBER_AT, RUN_BYTES)) {
-        return false;
-    }
-    has_edition(event, s)
 }
 
 // Whether a line is one of the lines.
 fn is_line(n: u64) -> bool
     ensures { result ≡ is_line n }
 {
-    if n < 1 {
-        return false;
-    }
-    n <= LINE_COUNT as u64
+    (1..=LINE_COUNT as u64).contains(&n)
 }
 
 // Whether bytes from a place on are within the image room.
 fn in_room(from: usize, n: usize) -> bool
     ensures { result ≡ in_room from n }
 {
-    if ROOM_BYTES < from {
-        return false;
-    }
-    n <= ROOM_BYTES - from
+    from <= ROOM_BYTES && n <= ROOM_BYTES - from
 }
 
 // Whether there is what the record names: its run, its edition, its line, and its bytes of the image room.
@@ -317,65 +272,46 @@ fn is_within(kind: Kind, s: &[u8]) -> bool
     ensures { result ≡ is_within kind s.now }
 {
     match kind {
-        Kind::Frame => true,
-        Kind::File => true,
-        Kind::Run(event) => is_run_within(event, s),
+        Kind::Frame | Kind::File | Kind::ValueDay | Kind::Counts => true,
+        Kind::Run(event) => {
+            is_run(number_at(s, RUN_NUMBER_AT, RUN_BYTES)) && has_edition(event, s)
+        }
         Kind::Journal => is_run(number_at(s, RUN_NUMBER_AT, RUN_BYTES)),
-        Kind::Away => in_room(0, lent_length(s)),
-        Kind::TakeUp => in_room(0, lent_length(s)),
+        Kind::Away | Kind::TakeUp => in_room(0, lent_length(s)),
         Kind::Image => in_room(offset_of(s), size_of(kind, s)),
-        Kind::ValueDay => true,
-        Kind::MakeLine => is_line(number_at(s, LINE_NUMBER_AT, LINE_BYTES)),
-        Kind::PutIn => is_line(number_at(s, LINE_NUMBER_AT, LINE_BYTES)),
-        Kind::Counts => true,
+        Kind::MakeLine | Kind::PutIn => is_line(number_at(s, LINE_NUMBER_AT, LINE_BYTES)),
         Kind::NoCall => false,
     }
 }
 
 // Whether a record of this kind is not cut short.
+#[tactic(auto, unfolding(crate::specs::Records::is_whole, crate::specs::Records::size_of))]
 fn is_whole(kind: Kind, s: &[u8]) -> bool
     ensures { result ≡ is_whole kind s.now }
 {
     let head = head_of(kind);
-    if s.len() < head {
-        return false;
-    }
-    size_of(kind, s) <= s.len() - head
+    head <= s.len() && size_of(kind, s) <= s.len() - head
 }
 
 // The call that the record is.
+#[tactic(auto, unfolding(crate::specs::Records::call_of))]
 pub fn call_of(s: &[u8]) -> Kind
     ensures { result ≡ call_of s.now }
 {
-    if s.len() < 1 {
+    if s.is_empty() {
         return Kind::NoCall;
     }
     let kind = kind_of(s[0]);
-    if !is_whole(kind, s) {
-        return Kind::NoCall;
+    if is_whole(kind, s) && is_within(kind, s) {
+        kind
+    } else {
+        Kind::NoCall
     }
-    if !is_within(kind, s) {
-        return Kind::NoCall;
-    }
-    kind
 }
 
 // Whether there is a call.
 pub fn is_call(kind: Kind) -> bool
     ensures { result ≡ is_call kind }
 {
-    match kind {
-        Kind::Frame => true,
-        Kind::File => true,
-        Kind::Run(_) => true,
-        Kind::Journal => true,
-        Kind::Away => true,
-        Kind::TakeUp => true,
-        Kind::Image => true,
-        Kind::ValueDay => true,
-        Kind::MakeLine => true,
-        Kind::PutIn => true,
-        Kind::Counts => true,
-        Kind::NoCall => false,
-    }
+    !matches!(kind, Kind::NoCall)
 }

@@ -1,12 +1,10 @@
 -- Number 1 where the rows are no bank's; else the bank's call.
 use mathlib.Core.Path.{sym, ap, ◌∙◌}
-use borrow.Author.Tests.{not-true, not-false}
 use Rattle.bank.specs.declared.call.FrameOut.{FrameOut}
 use Rattle.bank.specs.Lent.{lent_frame_call_of}
 use Rattle.bank_steps.specs.Lent.{lent}
 use Rattle.bank.proofs.Entered.{none-entered, none-judged}
 use Rattle.bank.proofs.Lent.{rows-refused}
-use borrow.Author.Rules.{rules}
 use Rattle.bank.proofs.call.answer_frame.Goals as goal
 
 pub returns-then-not-is_sound : goal.returns-then-not-is_sound

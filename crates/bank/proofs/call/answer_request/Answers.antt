@@ -6,7 +6,6 @@ use mathlib.Core.List.{List, []}
 use mathlib.Core.Path.{◌≡◌, sym, ap, ◌∙◌, subst}
 use native.Mathlib.Omega.{arith}
 use lib.ListN.{length}
-use borrow.Author.Tests.{not-true, not-false}
 use Rattle.bank_state.specs.Limits.{store_bytes, idle_others}
 use Rattle.bank_verdicts.specs.declared.verdict.Context.{Context}
 use Rattle.bank_sound.specs.Sound.{is_sound}
@@ -21,7 +20,6 @@ use Rattle.bank_steps.specs.Lent.{lent, state_of}
 use Rattle.bank.proofs.Entered.{none-entered, none-judged, frame-entered, frame-judged}
 use Rattle.bank.proofs.Lent.{advanced-prepared, lent-refused, frame-carried}
 use Rattle.bank.proofs.Right.{right-told}
-use borrow.Author.Rules.{rules}
 use Rattle.bank.proofs.call.answer_request.Goals as goal
 
 abbrev context : ℕ → Context

@@ -1,6 +1,5 @@
 -- The frame is read and its request answered.
 use Rattle.bank.proofs.RequestBounds.{read-bounded}
-use borrow.Author.Rules.{rules}
 use Rattle.bank.proofs.call.answer_sound.Goals as goal
 
 pub answer_request-requires : goal.answer_request-requires

@@ -1,6 +1,5 @@
 -- Segment 0 is empty; another is that part of the file. Assumes nothing.
 use borrow.Author.Tests.{ne_eqb}
-use borrow.Author.Rules.{rules}
 use Rattle.bank.proofs.call.file_segment.Goals as goal
 
 pub returns-then-segment-eq0 : goal.returns-then-segment-eq0

@@ -1,5 +1,4 @@
 -- Fields and data are read off the verdict. Assumes nothing.
-use borrow.Author.Rules.{rules}
 use Rattle.bank.proofs.call.reply.Goals as goal
 
 pub reply_with-requires : goal.reply_with-requires

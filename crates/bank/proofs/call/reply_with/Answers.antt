@@ -1,10 +1,8 @@
 -- What was written is read back, so the code carried beside it is the reply's. Assumes nothing.
+use Rattle.std.specs.Prelude.{Ok}
 use mathlib.Core.Path.{sym, ap, ◌∙◌}
-use lib.ListN.{length-map}
-use borrow.Author.Rules.{rules}
 use Rattle.frame.proofs.RoundTrip.{Sized}
 use Rattle.frame_writer.proofs.Written.{accepted-written}
-use Rattle.bank.specs.declared.call.FrameAnswer.TheVariants.{Reply}
 use Rattle.bank.proofs.Codes.{written-code}
 use Rattle.bank.proofs.call.reply_with.Goals as goal
 
@@ -21,7 +19,7 @@ returns c =
     let wrote = c.write_accepted-n.ensures in
     let w = accepted-written a.fields a.bytes.now a.buffer.now c.requires.0 in
     record {
-      answered = rw w.0 (ap Reply wrote.0);
+      answered = rw w.0 (ap Ok wrote.0);
       written = wrote.1 ∙ sym w.1;
       coded =
           c.return_code.ensures

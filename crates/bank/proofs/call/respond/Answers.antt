@@ -18,7 +18,6 @@ use Rattle.bank_steps.specs.Lent.{lent}
 use Rattle.bank.proofs.Entered.{request-entered, answered-entered, answered-judged}
 use Rattle.bank.proofs.Lent.{respond-kept}
 use Rattle.bank.proofs.WrittenReplies.{sendable}
-use borrow.Author.Rules.{rules}
 use Rattle.bank.proofs.call.respond.Goals as goal
 
 pub reply-out-requires : goal.reply-out-requires

@@ -1,29 +1,26 @@
--- Of the places passed, so many hold an open upload that is idle.
-use native.Mathlib.Omega.{arith}
-use mathlib.Core.Path.{sym, ◌∙◌}
+-- The numbers of the places whose upload is idle are as many as those places.
+use Rattle.std.proofs.Common.{refl, ◌≡◌, ◌∙◌, rules, tests, arith}
+use Rattle.std.proofs.lemmas.Iterator.{YieldsList-from_range}
+use Rattle.std.proofs.lemmas.Iterator.Consumers.{YieldsList-at, YieldsList-from_filter, count_from_yields_List}
+use Rattle.bank_state.specs.Limits.{place_count}
+use Rattle.bank_state.specs.Rows.{count_of}
 use Rattle.bank_state.specs.State.{no_place}
-use Rattle.bank_state.proofs.Loops.{counted_start, counted-one, counted_none, counted-end}
+use Rattle.bank_state.proofs.Rows.{count-le}
+use Rattle.bank_rows.specs.State.{bank_of}
+use Rattle.bank_rows.proofs.Ranges.{row_passes, count-of-all}
 use Rattle.bank_rows.proofs.Reading.{length-places-of}
+use Rattle.bank_clock.specs.Idle.{is_idle_upload}
 use Rattle.bank_clock.proofs.idle.idle_uploads.Goals as goal
-
-pub loop-i-init : goal.loop-i-init
-loop-i-init c = counted_start _ _
-
-pub overflow_add-n : goal.overflow_add-n
-overflow_add-n c = omega (arith, c.loop-i.invariant.most)
-
-pub loop-i-preserved-then-is_idle_upload : goal.loop-i-preserved-then-is_idle_upload
-loop-i-preserved-then-is_idle_upload c =
-    let h = length-places-of c.args.rows.now in
-    counted-one _ _ no_place _ _ c.loop-i.invariant (omega arith) (sym c.is_idle_upload.ensures ∙ c.if-is_idle_upload.true)
-
-pub loop-i-preserved : goal.loop-i-preserved
-loop-i-preserved c =
-    let h = length-places-of c.args.rows.now in
-    counted_none _ _ no_place _ _ c.loop-i.invariant (omega arith) (sym c.is_idle_upload.ensures ∙ c.if-is_idle_upload.false)
 
 pub returns : goal.returns
 returns c =
-    let h = length-places-of c.args.rows.now in
-    let l = c.loop-i.invariant in
-    (omega (arith, l.most, l.within), counted-end _ _ no_place _ _ l (omega arith))
+    let a = c.args in
+    let s = a.rows.now in
+    let places = (bank_of s).places in
+    let test = row_passes (is_idle_upload a.clock) places no_place in
+    let e : c.count.result ≡ count_of (is_idle_upload a.clock) places =
+    count_from_yields_List c.filter.result _ c.count.ensures.ran
+    (YieldsList-from_filter _ test (YieldsList-at c.filter.ensures.source (YieldsList-from_range 0 place_count place_count refl (omega arith)))
+    c.filter.ensures.closure (λ x r q k. search (rules, tests)))
+    ∙ count-of-all _ places no_place _ (length-places-of s) in
+    (omega (arith, e, count-le (is_idle_upload a.clock) places, length-places-of s), e)

@@ -10,21 +10,18 @@ use Rattle.bank_rows.proofs.Reading.{length-places-of}
 use Rattle.bank_verdicts.specs.Judgement.{upload_at}
 use Rattle.bank_events.proofs.actions.named_order.Goals as goal
 
-pub returns-then-i-ge-PLACE_COUNT : goal.returns-then-i-ge-PLACE_COUNT
-returns-then-i-ge-PLACE_COUNT c =
-    let found : let a = c.args in
-    c.find_upload-i.result ≡ upload_at (bank_of a.rows.now) a.q = c.find_upload-i.ensures ∙ rw (c.transaction-id.ensures, c.subscriber.ensures) in
+pub returns-then-i-lt-PLACE_COUNT : goal.returns-then-i-lt-PLACE_COUNT
+returns-then-i-lt-PLACE_COUNT c =
     let a = c.args in
     let b = bank_of a.rows.now in
-    let h = found in
-    sym (ap (λ (p : Place). p.number)
-    (get_or-eq_default b.places no_place (omega (arith, h, c.if-i-ge-PLACE_COUNT.true, length-places-of a.rows.now))))
+    let found : c.find_upload-i.result ≡ upload_at b a.q = c.find_upload-i.ensures ∙ rw (c.transaction-id.ensures, c.subscriber.ensures) in
+    ap (λ (p : Place). p.number) c.place_at.ensures
+    ∙ ap (λ (i : ℕ). (place_at b i).number) found
 
-pub returns : goal.returns
-returns c =
-    let found : let a = c.args in
-    c.find_upload-i.result ≡ upload_at (bank_of a.rows.now) a.q = c.find_upload-i.ensures ∙ rw (c.transaction-id.ensures, c.subscriber.ensures) in
+pub returns-else-i-lt-PLACE_COUNT : goal.returns-else-i-lt-PLACE_COUNT
+returns-else-i-lt-PLACE_COUNT c =
     let a = c.args in
     let b = bank_of a.rows.now in
-    ap (λ (p : Place). p.number) c.place_at-p.ensures
-    ∙ ap (λ (i : ℕ). (place_at b i).number) (found)
+    let found : c.find_upload-i.result ≡ upload_at b a.q = c.find_upload-i.ensures ∙ rw (c.transaction-id.ensures, c.subscriber.ensures) in
+    sym (ap (λ (p : Place). p.number)
+    (get_or-eq_default b.places no_place (omega (arith, found, c.if-i-lt-PLACE_COUNT.false, length-places-of a.rows.now))))

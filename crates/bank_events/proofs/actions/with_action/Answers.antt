@@ -14,12 +14,12 @@ pub returns-then-is_event : goal.returns-then-is_event
 returns-then-is_event c =
     let a = c.args in
     let e = entry-of a.verdict a.order a.q c.verdict_kind-kind.result c.verdict_kind-kind.ensures _ _
-    c.verdict_subscriber-subscriber.ensures c.verdict_id-id.ensures
+    c.verdict_subscriber.ensures c.verdict_id-id.ensures
     (sym c.is_event.ensures ∙ c.if-is_event.true) in
     subst (λ (es : List Entry). Holds c.with_entry.result (entries_in a.batch ++ es)) (sym e) c.with_entry.ensures
 
-pub returns : goal.returns
-returns c =
+pub returns-else-is_event : goal.returns-else-is_event
+returns-else-is_event c =
     let a = c.args in
     let e = no-entry a.verdict a.order a.q c.verdict_kind-kind.result c.verdict_kind-kind.ensures
     (sym c.is_event.ensures ∙ c.if-is_event.false) in

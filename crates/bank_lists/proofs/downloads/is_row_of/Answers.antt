@@ -1,19 +1,20 @@
--- The low half of the ID is looked at first; any number that differs says no.
-use borrow.Author.Tests.{eq-eqb, ne_eqb}
-use Rattle.bank_rows.proofs.Reading.{download-from, download-low, download-high, download-subscriber}
+-- The low half of the ID is looked at first; the tests say the same in any order.
+use native.Mathlib.Omega.{arith}
+use lib.Seq.{get_or-drop}
+use Rattle.bank_state.specs.Search.{is_download}
+use Rattle.bank_rows.specs.Layout.{download_high, download_low, download_subscriber}
 use Rattle.bank_lists.proofs.downloads.is_row_of.Goals as goal
 
-pub returns-then-area-at : goal.returns-then-area-at
-returns-then-area-at c =
-    let a = c.args in
-    rw (download-from a.area.now a.at) (download-low a.area.now a.at a.subscriber a.high a.low (ne_eqb _ _ c.if-area-at.true))
-
 pub returns-then-area-at-2 : goal.returns-then-area-at-2
+unfolding is_download
 returns-then-area-at-2 c =
     let a = c.args in
-    rw (download-from a.area.now a.at) (download-high a.area.now a.at a.subscriber a.high a.low (ne_eqb _ _ c.if-area-at-2.true))
+    let s = a.area.now in
+    rw (get_or-drop a.at s download_high 0, get_or-drop a.at s download_low 0, get_or-drop a.at s download_subscriber 0) (grind arith)
 
-pub returns : goal.returns
-returns c =
+pub returns-else-area-at-2 : goal.returns-else-area-at-2
+unfolding is_download
+returns-else-area-at-2 c =
     let a = c.args in
-    rw (download-from a.area.now a.at) (download-subscriber a.area.now a.at a.subscriber a.high a.low (eq-eqb _ _ c.if-area-at.false) (eq-eqb _ _ c.if-area-at-2.false))
+    let s = a.area.now in
+    rw (get_or-drop a.at s download_high 0, get_or-drop a.at s download_low 0, get_or-drop a.at s download_subscriber 0) (grind arith)

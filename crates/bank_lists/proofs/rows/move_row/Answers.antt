@@ -1,17 +1,22 @@
--- A row that stands there already is as it was.
-use Prim.Native.Nat.{ℕ}
-use mathlib.Core.Path.{sym, ap, ◌∙◌}
-use lib.ListN.{take, drop}
+-- The row is copied; one that stands there already is as it was.
+use Rattle.std.proofs.Common.{ℕ, ◌+◌, ◌-◌, ◌≡◌, take, drop, sym, ap, ◌∙◌, arith}
+use lib.ListN.{length-drop}
+use lib.Seq.{paste}
 use Rattle.octets.specs.Bytes.{overwrite}
-use Rattle.bank_lists.proofs.Keeping.{overwrite-own}
+use Rattle.bank_lists.proofs.Keeping.{overwrite-own, overwrite-part}
 use Rattle.bank_lists.proofs.rows.move_row.Goals as goal
 
 pub returns-then-to-from : goal.returns-then-to-from
 returns-then-to-from c =
     let a = c.args in
-    let e = c.if-to-from.true in
-    sym (ap (λ (n : ℕ). overwrite a.rows.now n (take a.width (drop a.from a.rows.now))) e
-    ∙ overwrite-own a.rows.now a.from a.width c.requires.1)
+    let s = a.rows.now in
+    let e : a.from + a.width - a.from ≡ a.width = omega arith in
+    c.copy_within.ensures.after ∙ ap (paste s a.to (drop a.from s)) e
+    ∙ overwrite-part s a.to (drop a.from s) a.width (omega (arith, length-drop a.from s, c.requires.1))
 
-pub copy_row-requires : goal.copy_row-requires
-copy_row-requires c = (c.requires.0 c.if-to-from.false, c.requires.1)
+pub returns-else-to-from : goal.returns-else-to-from
+returns-else-to-from c =
+    let a = c.args in
+    let s = a.rows.now in
+    sym (ap (λ (n : ℕ). overwrite s n (take a.width (drop a.from s))) c.if-to-from.false
+    ∙ overwrite-own s a.from a.width c.requires.1)

@@ -1,32 +1,17 @@
--- The numbers from the first place up to i are 0.
-use borrow.Author.Rules.{rules}
-use Prim.Native.Nat.{ℕ, ◌-◌}
-use mathlib.Core.List.{List}
-use mathlib.Core.Path.{◌≡◌, refl, sym, ap, ◌∙◌}
-use native.Mathlib.Omega.{arith}
-use lib.ListN.{set, replicate, length-set}
-use Rattle.octets.specs.Bytes.{overwrite}
-use Rattle.octets.proofs.Numbers.{overwrite-nil}
-use Rattle.bank_rows.proofs.General.{wiped-next}
+-- The part that is lent comes back as zeros.
+use Rattle.std.proofs.Common.{ℕ, ◌-◌, ◌≡◌, length, take, drop, replicate, refl, ap, ◌∙◌, rules, arith}
+use Rattle.std.proofs.lemmas.Slice.{put_mid-paste}
+use lib.ListN.{length-drop, length-replicate}
+use lib.Seq.{length-take-le}
+use Rattle.octets.proofs.Numbers.{overwrite-paste}
 use Rattle.bank_lists.proofs.rows.wipe.Goals as goal
-
-pub loop-i-init : goal.loop-i-init
-loop-i-init c =
-    let a = c.args in
-    let e : a.from - a.from ≡ 0 = omega arith in
-    (search rules, search rules, rw e (sym (overwrite-nil a.rows.now a.from)), refl)
-
-pub loop-i-preserved : goal.loop-i-preserved
-loop-i-preserved c =
-    let a = c.args in (
-      search rules,
-      search rules,
-      ap (λ (d : List ℕ). set d c.loop-i.i 0) c.loop-i.invariant.2 ∙ wiped-next a.rows.now a.from c.loop-i.i c.loop-i.invariant.0 (omega arith),
-      simp length-set (search rules),
-    )
 
 pub returns : goal.returns
 returns c =
     let a = c.args in
-    let e : c.loop-i.i ≡ a.end = omega arith in
-    c.loop-i.invariant.2 ∙ ap (λ (n : ℕ). overwrite a.rows.now a.from (replicate (n - a.from) 0)) e
+    let s = a.rows.now in
+    let n : ℕ = a.end - a.from in
+    let m : length (take n (drop a.from s)) ≡ n = length-take-le n (drop a.from s) (omega (arith, length-drop a.from s, c.requires.0, c.requires.1)) in
+    let zeros = c.fill.ensures.after (search rules) ∙ ap (λ (k : ℕ). replicate k 0) m in
+    put_mid-paste a.from n s _ (replicate n 0) (length (replicate n 0)) zeros (length-replicate n 0) refl
+    ∙ overwrite-paste s a.from (replicate n 0)

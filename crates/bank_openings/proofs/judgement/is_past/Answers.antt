@@ -1,7 +1,7 @@
 -- The own number is at least the counter, so a counter at the limit says it at once. Assumes nothing.
-use mathlib.Core.Path.{sym, ap}
+use Prim.Native.Nat.{◌≤◌}
+use mathlib.Core.Path.{sym, ◌∙◌}
 use native.Mathlib.Omega.{arith}
-use lib.Dec.{leb}
 use borrow.Author.Tests.{le-leb}
 use Rattle.bank_state.specs.Limits.{series_limit}
 use Rattle.bank_state.specs.Numbers.{next_number}
@@ -13,11 +13,6 @@ pub returns-then-series_of-ge-SERIES_LIMIT : goal.returns-then-series_of-ge-SERI
 returns-then-series_of-ge-SERIES_LIMIT c =
     let s = c.args.subscriber in
     let b = bank_of c.args.rows.now in
-    sym (le-leb series_limit (next_number s b) (omega (arith, next-from s b, c.series_of.ensures, c.if-series_of-ge-SERIES_LIMIT.true)))
-
-pub next_number-requires : goal.next_number-requires
-next_number-requires c =
-    (c.requires, omega (arith, c.series_of.ensures, c.if-series_of-ge-SERIES_LIMIT.false))
-
-pub returns : goal.returns
-returns c = ap (leb series_limit) c.next_number.ensures
+    let past : series_limit ≤ next_number s b = omega (arith, next-from s b, c.series_of.ensures, c.if-series_of-ge-SERIES_LIMIT.true) in
+    le-leb series_limit c.series_of.result c.if-series_of-ge-SERIES_LIMIT.true
+    ∙ sym (le-leb series_limit (next_number s b) past)

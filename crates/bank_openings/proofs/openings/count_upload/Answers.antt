@@ -1,5 +1,5 @@
 -- One opening more, then the series: two changes stored as one.
-use Rattle.bank_verdicts.specs.declared.verdict.Direction.TheVariants as direction
+use Rattle.message.specs.declared.directions.Direction.TheVariants as direction
 use Rattle.bank_openings.proofs.Opened.{counted-laid, upload-counted}
 use Rattle.bank_openings.proofs.openings.count_upload.Goals as goal
 

@@ -1,7 +1,7 @@
 -- One opening more, then its record: two changes stored as one.
 use mathlib.Core.Path.{refl}
 use native.Mathlib.Omega.{arith}
-use Rattle.bank_verdicts.specs.declared.verdict.Direction.TheVariants as direction
+use Rattle.message.specs.declared.directions.Direction.TheVariants as direction
 use Rattle.bank_openings.proofs.Opened.{counted-laid, counted-downloads, download-stored}
 use Rattle.bank_openings.proofs.openings.open_download.Goals as goal
 

@@ -7,16 +7,12 @@ use Rattle.bank_rows.specs.State.{bank_of}
 use Rattle.bank_rows.proofs.State.{held_rows}
 use Rattle.bank_rows.proofs.numbers.file_length_of.Goals as goal
 
-pub returns-then-subscriber-eq0 : goal.returns-then-subscriber-eq0
-unfolding file_length
-returns-then-subscriber-eq0 c = rw c.if-subscriber-eq0.true c.file_length.ensures
-
 pub returns-then-i-lt-PLACE_COUNT : goal.returns-then-i-lt-PLACE_COUNT
 unfolding file_length
-returns-then-i-lt-PLACE_COUNT c = c.file_length-then-i-lt-PLACE_COUNT.ensures
+returns-then-i-lt-PLACE_COUNT c = rw c.index_of-i.ensures at c.file_length.ensures
 
-pub returns : goal.returns
+pub returns-else-i-lt-PLACE_COUNT : goal.returns-else-i-lt-PLACE_COUNT
 unfolding file_length
-returns c =
+returns-else-i-lt-PLACE_COUNT c =
     let long = (held_rows c.args.rows.now c.requires).files in
     sym (get_or-eq_default (bank_of c.args.rows.now).files 0 (omega arith))

@@ -7,16 +7,12 @@ use Rattle.bank_rows.specs.State.{bank_of}
 use Rattle.bank_rows.proofs.State.{held_rows}
 use Rattle.bank_rows.proofs.numbers.series_of.Goals as goal
 
-pub returns-then-subscriber-eq0 : goal.returns-then-subscriber-eq0
-unfolding series_of
-returns-then-subscriber-eq0 c = rw c.if-subscriber-eq0.true c.series_at.ensures
-
 pub returns-then-i-lt-PLACE_COUNT : goal.returns-then-i-lt-PLACE_COUNT
 unfolding series_of
-returns-then-i-lt-PLACE_COUNT c = c.series_at-then-i-lt-PLACE_COUNT.ensures
+returns-then-i-lt-PLACE_COUNT c = rw c.index_of-i.ensures at c.series_at.ensures
 
-pub returns : goal.returns
+pub returns-else-i-lt-PLACE_COUNT : goal.returns-else-i-lt-PLACE_COUNT
 unfolding series_of
-returns c =
+returns-else-i-lt-PLACE_COUNT c =
     let long = (held_rows c.args.rows.now c.requires).series in
     sym (get_or-eq_default (bank_of c.args.rows.now).series 0 (omega arith))

@@ -3,10 +3,6 @@ use native.Mathlib.Omega.{arith}
 use Rattle.bank_rows.proofs.Writing.{series-none}
 use Rattle.bank_rows.proofs.numbers.set_series_of.Goals as goal
 
-pub returns-then-subscriber-eq0 : goal.returns-then-subscriber-eq0
-returns-then-subscriber-eq0 c =
-    rw c.if-subscriber-eq0.true c.set_series_at.ensures
-
 pub returns-else-i-lt-PLACE_COUNT : goal.returns-else-i-lt-PLACE_COUNT
 returns-else-i-lt-PLACE_COUNT c =
     series-none c.args.rows.now c.requires _ c.args.n (omega arith)

@@ -1,28 +1,19 @@
 -- The search passes the places that hold another number or none.
-use native.Mathlib.Omega.{arith}
-use mathlib.Core.Path.{sym, ◌∙◌}
-use Rattle.bank_state.specs.Search.{find_number}
+use Rattle.std.proofs.Common.{true, false, ◌≡◌, ◌∙◌, rules, tests}
+use Rattle.std.proofs.lemmas.Iterator.{first_from_Range}
+use Rattle.bank_state.specs.Search.{holds_number, find_number}
 use Rattle.bank_state.specs.State.{no_place}
-use Rattle.bank_state.proofs.Loops.{searched-start, searched-next, searched-hit, searched-end}
+use Rattle.bank_rows.specs.State.{bank_of}
+use Rattle.bank_rows.proofs.Ranges.{row_passes, first-of-all}
 use Rattle.bank_rows.proofs.Reading.{length-places-of}
 use Rattle.bank_rows.proofs.places.find_number.Goals as goal
-
-pub loop-i-init : goal.loop-i-init
-loop-i-init c = searched-start _ _
-
-pub returns-then-holds_number_at : goal.returns-then-holds_number_at
-unfolding find_number
-returns-then-holds_number_at c =
-    let h = length-places-of c.args.rows.now in
-    searched-hit _ _ no_place _ c.loop-i.invariant (omega arith) (sym c.holds_number_at.ensures ∙ c.if-holds_number_at.true)
-
-pub loop-i-preserved : goal.loop-i-preserved
-loop-i-preserved c =
-    let h = length-places-of c.args.rows.now in
-    searched-next _ _ no_place _ c.loop-i.invariant (omega arith) (sym c.holds_number_at.ensures ∙ c.if-holds_number_at.false)
 
 pub returns : goal.returns
 unfolding find_number
 returns c =
-    let h = length-places-of c.args.rows.now in
-    searched-end _ _ no_place _ c.loop-i.invariant (omega arith)
+    let a = c.args in
+    let places = (bank_of a.rows.now).places in
+    let test = row_passes (holds_number a.subscriber a.number) places no_place in
+    c.unwrap_or.ensures
+    ∙ first-of-all _ places no_place _ (length-places-of a.rows.now) c.find.result
+    (first_from_Range _ _ _ c.find.result (λ i. test i ≡ true) (λ i. test i ≡ false) c.find.ensures.ran (λ x q k. search (rules, tests)) (λ x q k. search (rules, tests)))

@@ -1,28 +1,22 @@
--- Of the places passed, so many hold an open upload.
-use native.Mathlib.Omega.{arith}
-use mathlib.Core.Path.{sym, ◌∙◌}
+-- The numbers of the places that hold an open upload are as many as those places.
+use Rattle.std.proofs.Common.{rules, tests, ◌∙◌}
+use Rattle.std.proofs.lemmas.Iterator.{YieldsList-from_range}
+use Rattle.std.proofs.lemmas.Iterator.Consumers.{YieldsList-at, YieldsList-from_filter, count_from_yields_List}
+use Rattle.bank_state.specs.declared.state.Place.{Place}
+use Rattle.bank_state.specs.Limits.{place_count}
+use Rattle.bank_state.specs.Search.{is_open}
 use Rattle.bank_state.specs.State.{no_place}
-use Rattle.bank_state.proofs.Loops.{counted_start, counted-one, counted_none, counted-end}
+use Rattle.bank_rows.specs.State.{bank_of}
+use Rattle.bank_rows.proofs.Ranges.{row_passes, count-of-all}
 use Rattle.bank_rows.proofs.Reading.{length-places-of}
 use Rattle.bank_rows.proofs.places.open_uploads.Goals as goal
 
-pub loop-i-init : goal.loop-i-init
-loop-i-init c = counted_start _ _
-
-pub overflow_add-n : goal.overflow_add-n
-overflow_add-n c = omega (arith, c.loop-i.invariant.most)
-
-pub loop-i-preserved-then-is_open_at : goal.loop-i-preserved-then-is_open_at
-loop-i-preserved-then-is_open_at c =
-    let h = length-places-of c.args.rows.now in
-    counted-one _ _ no_place _ _ c.loop-i.invariant (omega arith) (sym c.is_open_at.ensures ∙ c.if-is_open_at.true)
-
-pub loop-i-preserved : goal.loop-i-preserved
-loop-i-preserved c =
-    let h = length-places-of c.args.rows.now in
-    counted_none _ _ no_place _ _ c.loop-i.invariant (omega arith) (sym c.is_open_at.ensures ∙ c.if-is_open_at.false)
-
 pub returns : goal.returns
 returns c =
-    let h = length-places-of c.args.rows.now in
-    counted-end _ _ no_place _ _ c.loop-i.invariant (omega arith)
+    let a = c.args in
+    let places = (bank_of a.rows.now).places in
+    let test = row_passes (λ (p : Place). is_open p.used) places no_place in
+    count_from_yields_List c.filter.result _ c.count.ensures.ran
+    (YieldsList-from_filter _ test (YieldsList-at c.filter.ensures.source (YieldsList-from_range 0 place_count place_count (cc) (cc)))
+    c.filter.ensures.closure (λ x r q k. search (rules, tests)))
+    ∙ count-of-all _ _ no_place _ (length-places-of a.rows.now)

@@ -1,6 +1,6 @@
 -- What the core ensures for every row of the length told it ensures for the lent one, into which the events go. Assumes nothing.
 use mathlib.Core.List.{List}
-use mathlib.Core.Path.{◌≡◌, refl, ap, ◌∙◌}
+use mathlib.Core.Path.{refl, ap, ◌∙◌}
 use Rattle.journal.specs.declared.event.Event.{Event}
 use Rattle.bank_session.specs.Session.{session, session_frame_call_of}
 use Rattle.bank_session.proofs.calls.frame_arrives.Goals as goal

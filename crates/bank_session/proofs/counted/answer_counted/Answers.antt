@@ -2,8 +2,6 @@
 use Prim.Native.Nat.{ℕ, max}
 use mathlib.Core.Bool.{true}
 use mathlib.Core.Path.{◌≡◌, sym, ap, ◌∙◌}
-use borrow.Author.Rules.{rules}
-use borrow.Author.Tests.{not-true, not-false}
 use Rattle.bank_rows.specs.State.{bank_of}
 use Rattle.bank_clock.specs.Idle.{idle_count}
 use Rattle.bank_sound.specs.Sound.{is_sound}

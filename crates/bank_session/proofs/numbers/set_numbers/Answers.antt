@@ -1,6 +1,5 @@
 -- The eight numbers are written over those behind the bank's.
 use mathlib.Core.Path.{◌∙◌}
-use borrow.Author.Rules.{rules}
 use Rattle.bank_session.proofs.Rows.{counted}
 use Rattle.bank_session.proofs.numbers.set_numbers.Goals as goal
 

@@ -1,6 +1,7 @@
 -- The search passes the places that hold another order or none.
 use native.Mathlib.Omega.{arith}
-use mathlib.Core.Path.{sym, ap, ◌∙◌}
+use mathlib.Core.Path.{◌≡◌, sym, ap, ◌∙◌}
+use Rattle.bank_state.specs.Limits.{place_count}
 use Rattle.bank_state.specs.State.{no_place}
 use Rattle.bank_state.proofs.Loops.{searched-start, searched-next, searched-hit, searched-end}
 use Rattle.bank_rows.proofs.Reading.{length-places-of}
@@ -29,4 +30,5 @@ pub returns : goal.returns
 unfolding find_order
 returns c =
     let h = length-places-of c.args.rows.now in
-    searched-end _ _ no_place _ c.loop-i.invariant (omega arith)
+    let over : c.loop-i.i ≡ place_count = omega (arith, c.loop-i-test.false, c.loop-i.invariant.within) in
+    sym over ∙ searched-end _ _ no_place _ c.loop-i.invariant (omega (arith, over))

@@ -1,23 +1,15 @@
--- The places passed are in range; one that is not decides.
-use native.Mathlib.Omega.{arith}
-use mathlib.Core.Path.{sym, ◌∙◌}
+-- The test of each of the places, as the definition has it.
+use Rattle.std.proofs.Common.{arith, refl, true, false, ◌≡◌, rules, tests}
+use Rattle.std.proofs.lemmas.Iterator.{cases_from_all, YieldsList-from_range}
 use Rattle.bank_state.specs.Limits.{place_count}
+use Rattle.bank_rows.proofs.Ranges.{all-is}
 use Rattle.bank_sound.specs.Sound.{is_sound_place}
-use Rattle.bank_rows.proofs.Tests.{all_none, all-next, all-fails}
 use Rattle.bank_sound.proofs.sound.are_sound_places.Goals as goal
 
-pub loop-i-init : goal.loop-i-init
-loop-i-init c = (omega arith, all_none _)
-
-pub returns-then-not-is_sound_place : goal.returns-then-not-is_sound_place
-returns-then-not-is_sound_place c =
-    let a = c.args in
-    sym (all-fails (is_sound_place a.rows.now) c.loop-i.i place_count c.loop-i-test.true
-    (sym c.is_sound_place.ensures ∙ c.if-not-is_sound_place.true))
-
-pub loop-i-preserved : goal.loop-i-preserved
-loop-i-preserved c =
-    let a = c.args in (
-      omega (arith, c.loop-i-test.true),
-      all-next (is_sound_place a.rows.now) c.loop-i.i c.loop-i.invariant.1 (sym c.is_sound_place.ensures ∙ c.if-not-is_sound_place.false),
-    )
+pub returns : goal.returns
+returns c =
+    let s = c.args.rows.now in
+    let test = is_sound_place s in
+    all-is test place_count _
+    (cases_from_all _ _ _ (λ i. test i ≡ true) (λ i. test i ≡ false) c.all.ensures.ran (YieldsList-from_range 0 place_count place_count refl (omega arith))
+    (λ x q k. search (rules, tests)) (λ x q k. search (rules, tests)))

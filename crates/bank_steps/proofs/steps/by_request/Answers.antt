@@ -22,22 +22,22 @@ judged-so requests.ChosenOpening k b q = refl
 
 pub returns-in-UploadOpening : goal.returns-in-UploadOpening
 returns-in-UploadOpening c =
-    rw (← judged-so _ _ _ _, ← c.target_of-target.ensures, c.in-UploadOpening.is)
-    (c.upload_opening.ensures _ _ _)
+    rw (← judged-so _ _ _ _, ← c.target_of.ensures, c.in-UploadOpening.is)
+    (c.opening.ensures _ _ _)
 
 pub returns-in-DownloadOpening : goal.returns-in-DownloadOpening
 returns-in-DownloadOpening c =
-    rw (← judged-so _ _ _ _, ← c.target_of-target.ensures, c.in-DownloadOpening.is)
-    (c.download_opening.ensures _ _ _)
+    rw (← judged-so _ _ _ _, ← c.target_of.ensures, c.in-DownloadOpening.is)
+    (c.opening-in-DownloadOpening.ensures _ _ _)
 
 pub returns-in-Transaction : goal.returns-in-Transaction
 returns-in-Transaction c =
-    rw (← judged-so _ _ _ _, ← c.target_of-target.ensures, c.in-Transaction.is)
+    rw (← judged-so _ _ _ _, ← c.target_of.ensures, c.in-Transaction.is)
     c.on_transaction.ensures
 
 pub returns-in-Signing : goal.returns-in-Signing
 returns-in-Signing c =
-    rw (← judged-so _ _ _ _, ← c.target_of-target.ensures, c.in-Signing.is)
+    rw (← judged-so _ _ _ _, ← c.target_of.ensures, c.in-Signing.is)
     (c.signing.ensures _ _ _)
 
 pub signing-requires : goal.signing-requires

@@ -1,5 +1,6 @@
 -- Each action by what it ends; the others keep the record open. Assumes nothing.
 use mathlib.Core.List.{List}
+use mathlib.Core.Logic.{inl, inr}
 use mathlib.Core.Path.{refl, ap, ◌∙◌}
 use Prim.Native.Nat.{ℕ}
 use Rattle.bank_state.specs.declared.state.Download.{Download}
@@ -27,18 +28,10 @@ set_download-requires c =
 pub returns-in-Cancelled : goal.returns-in-Cancelled
 returns-in-Cancelled c =
     λ o.
-    rw (c.in-Cancelled.is, ← c.transaction.ensures, ← c.subscriber.ensures)
-    (lent_same c.end_downloads.ensures refl refl)
-
-pub returns-in-Declined : goal.returns-in-Declined
-returns-in-Declined c =
-    λ o.
-    rw (
-      c.in-Declined.is,
-      ← c.transaction-in-Declined.ensures,
-      ← c.subscriber-in-Declined.ensures,
-    )
-    (lent_same c.end_downloads-in-Declined.ensures refl refl)
+    elim c.in-Cancelled.is [
+      | inl e ↦ rw (e, ← c.transaction.ensures, ← c.subscriber.ensures) (lent_same c.end_downloads.ensures refl refl)
+      | inr e ↦ rw (e, ← c.transaction.ensures, ← c.subscriber.ensures) (lent_same c.end_downloads.ensures refl refl)
+    ]
 
 pub returns-in-Confirmed : goal.returns-in-Confirmed
 returns-in-Confirmed c =

@@ -12,6 +12,6 @@ pub overflow_add-result : goal.overflow_add-result
 overflow_add-result c =
     omega (arith, month-most first_year c.args.months (omega arith), leap-most c.args.year)
 
-pub returns : goal.returns
-returns c =
+pub returns-else-months-lt2 : goal.returns-else-months-lt2
+returns-else-months-lt2 c =
     omega (arith, late-month c.args.year c.args.months (omega arith) (omega arith))

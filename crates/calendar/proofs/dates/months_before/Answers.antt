@@ -9,5 +9,5 @@ month_start-requires c = omega (arith, leap-most c.args.year)
 pub returns-then-month_start-rest : goal.returns-then-month_start-rest
 returns-then-month_start-rest c = month-next _ _ _ (omega arith) (omega arith) (omega arith)
 
-pub returns : goal.returns
-returns c = month-here _ _ _ (omega arith) (omega arith) (omega arith)
+pub returns-else-month_start-rest : goal.returns-else-month_start-rest
+returns-else-month_start-rest c = month-here _ _ _ (omega arith) (omega arith) (omega arith)

@@ -6,5 +6,5 @@ use Rattle.calendar.proofs.dates.years_before.Goals as goal
 pub returns-then-year_start-number : goal.returns-then-year_start-number
 returns-then-year_start-number c = year-next _ _ (omega arith) (omega arith) (omega arith)
 
-pub returns : goal.returns
-returns c = year-here _ _ (omega arith) (omega arith) (omega arith)
+pub returns-else-year_start-number : goal.returns-else-year_start-number
+returns-else-year_start-number c = year-here _ _ (omega arith) (omega arith) (omega arith)

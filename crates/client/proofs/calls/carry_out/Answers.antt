@@ -8,28 +8,6 @@ use Rattle.client_rules.proofs.Causes.{Cause, cause}
 use Rattle.client_rules.proofs.Feasible.{opened-takes, advance-takes, return_fits, return-left, repeat-fits}
 use Rattle.client.proofs.calls.carry_out.Goals as goal
 
-pub returns-in-Ignore : goal.returns-in-Ignore
-returns-in-Ignore c = rw c.in-Ignore.is
-
-pub returns-in-Opened : goal.returns-in-Opened
-returns-in-Opened c =
-    rw (c.in-Opened.is, ← c.learned.ensures) c.take_segment.ensures
-
-pub returns-in-Advance : goal.returns-in-Advance
-returns-in-Advance c =
-    rw c.in-Advance.is c.take_segment-in-Advance.ensures
-
-pub returns-in-Return : goal.returns-in-Return
-returns-in-Return c =
-    rw (c.in-Return.is, ← c.go_on.ensures) (c.issue.ensures _)
-
-pub returns-in-Repeat : goal.returns-in-Repeat
-returns-in-Repeat c =
-    rw (c.in-Repeat.is, ← c.repeated.ensures) (c.issue-in-Repeat.ensures _)
-
-pub returns-in-Close : goal.returns-in-Close
-returns-in-Close c = rw (c.in-Close.is, c.close.ensures)
-
 pub overflow_add-c : goal.overflow_add-c
 overflow_add-c c =
     let cause-of : (decision : Decision) → c.args.decision ≡ decision → Cause c.args.c c.args.r (length c.args.d.now) decision = λ decision e. let led = cause c.args.c c.args.r (length c.args.d.now) c.requires.0 in

@@ -17,7 +17,7 @@ pub returns : goal.returns
 unfolding is_written request_with taken
 returns c =
     let start = c.args in
-    let l = lent_of start.time start.nonce start.payload.now start.file.now start.request.now in
+    let l = lent_of start.lent.time start.lent.nonce start.lent.payload.now start.file.now start.request.now in
     let next-is = c.go_on-next.ensures ∙ ap (go_on start.k.segment start.k.repeats) c.holding-held.ensures in
     let file = file_with start.k start.d.now start.file.now in
     rw (← next-is)

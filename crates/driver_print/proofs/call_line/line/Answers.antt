@@ -3,7 +3,6 @@ use native.Mathlib.Omega.{arith}
 use Rattle.driver_print.specs.Line.{line_room}
 use lib.ListN.{length}
 use Rattle.print.proofs.Texts.{printed-put, printed-none}
-use borrow.Author.Rules.{rules}
 use Rattle.driver_print.proofs.call_line.line.Goals as goal
 
 pub returns-then-size-lt-LINE_BYTES : goal.returns-then-size-lt-LINE_BYTES

@@ -3,7 +3,6 @@ use native.Mathlib.Omega.{arith}
 use mathlib.Core.Path.{ap}
 use lib.ListN.{length, length-take}
 use Rattle.print.proofs.Texts.{put-nothing, put_then}
-use borrow.Author.Rules.{rules}
 use Rattle.driver_print.proofs.call_line.put_answer.Goals as goal
 
 pub put_named-requires : goal.put_named-requires

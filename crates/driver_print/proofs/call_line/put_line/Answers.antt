@@ -7,7 +7,6 @@ use Rattle.print.proofs.Digits.{column-most}
 use Rattle.print.proofs.Texts.{put_then, put-left}
 use Rattle.driver_print.specs.Line.{line_of, answer_room}
 use Rattle.driver_print.proofs.Texts.{answer-most}
-use borrow.Author.Rules.{rules}
 use Rattle.driver_print.proofs.call_line.put_line.Goals as goal
 
 pub put_answer-b-requires : goal.put_answer-b-requires

@@ -1,6 +1,5 @@
 -- `put_named` meets its contract. Assumes nothing.
 use Rattle.print.proofs.Texts.{put_then}
-use borrow.Author.Rules.{rules}
 use Rattle.driver_print.proofs.call_line.put_named.Goals as goal
 
 pub returns : goal.returns

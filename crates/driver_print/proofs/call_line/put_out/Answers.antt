@@ -4,7 +4,6 @@ use Rattle.print.specs.Text.{column_room}
 use Rattle.print.proofs.Digits.{column-most}
 use Rattle.print.proofs.Texts.{put_then, put-left}
 use Rattle.driver_print.specs.Line.{out_text}
-use borrow.Author.Rules.{rules}
 use Rattle.driver_print.proofs.call_line.put_out.Goals as goal
 
 pub put_message-requires : goal.put_message-requires

@@ -4,7 +4,6 @@ use Rattle.print.specs.Seven.{counts_room}
 use Rattle.print.proofs.Lengths.{counts-most}
 use Rattle.print.proofs.Texts.{put_then, put-left, printed-put, printed-none}
 use Rattle.driver_print.specs.Counts.{counts_table, counts_table_room}
-use borrow.Author.Rules.{rules}
 use Rattle.driver_print.proofs.counts_table.counts_table.Goals as goal
 
 pub returns-then-output-lt-COUNTS_TABLE_ROOM : goal.returns-then-output-lt-COUNTS_TABLE_ROOM

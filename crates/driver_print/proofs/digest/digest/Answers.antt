@@ -1,30 +1,25 @@
--- The loop's invariant: x is the digest of the first i bytes. Assumes nothing.
-use lib.Seq.{take_all}
-use mathlib.Core.Path.{◌≡◌, sym, ap, ◌∙◌}
-use Prim.Native.Nat.{ℕ, ◌+◌, ◌≤◌, ◌<◌, ◌-◌, ◌*◌, ◌%◌}
-use native.Mathlib.Omega.{arith}
+-- The loop's invariant: x is the digest of the first bytes. Assumes nothing.
+use mathlib.Core.Path.{sym, ap, ◌∙◌}
+use Prim.Native.Nat.{ℕ, ◌+◌, ◌*◌, ◌%◌}
 use borrow.Author.Rules.{rules}
-use lib.ListN.{length, take}
+use lib.ListN.{take}
+use lib.Seq.{take_all}
 use Rattle.driver_print.specs.Line.{digest}
 use Rattle.driver_print.proofs.Texts.{digest-nil, digest-next}
 use Rattle.driver_print.proofs.digest.digest.Goals as goal
 
-pub loop-i-init : goal.loop-i-init
-loop-i-init c = (search rules, sym digest-nil, search rules)
+pub loop-b-init : goal.loop-b-init
+loop-b-init c = (sym digest-nil, search rules)
 
-pub overflow_add-x : goal.overflow_add-x
-overflow_add-x c =
-    omega (arith, c.loop-i.invariant.2, c.wide.ensures, c.type_inv.bytes c.loop-i.i)
-
-pub loop-i-preserved : goal.loop-i-preserved
-loop-i-preserved c =
+pub loop-b-preserved : goal.loop-b-preserved
+loop-b-preserved c =
     let s = c.args.bytes.now in (
-      search rules,
-      ap (λ (y : ℕ). (y * 256 + c.wide.result) % 4294967291) c.loop-i.invariant.1
-          ∙ ap (λ (b : ℕ). (digest (take c.loop-i.i s) * 256 + b) % 4294967291) c.wide.ensures ∙ sym (digest-next s c.loop-i.i (search rules)),
+      ap (λ (y : ℕ). (y * 256 + c.from.result) % 4294967291) c.loop-b.invariant.0
+          ∙ ap (λ (b : ℕ). (digest (take c.loop-b.b-index s) * 256 + b) % 4294967291) c.from.ensures
+          ∙ sym (digest-next s c.loop-b.b-index (search rules)),
       search rules,
     )
 
 pub returns : goal.returns
 returns c =
-    c.loop-i.invariant.1 ∙ ap digest (take_all c.loop-i.i c.args.bytes.now (search rules))
+    c.loop-b.invariant.0 ∙ ap digest (take_all c.loop-b.b-index c.args.bytes.now (search rules))

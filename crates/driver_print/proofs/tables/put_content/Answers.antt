@@ -5,7 +5,6 @@ use Rattle.print.proofs.Texts.{put_then, put-left}
 use Prim.Native.Nat.{◌*◌}
 use Rattle.driver_print.specs.Tables.{content_text}
 use Rattle.driver_print.proofs.Texts.{length-hex_of}
-use borrow.Author.Rules.{rules}
 use Rattle.driver_print.proofs.tables.put_content.Goals as goal
 
 pub put_hex-a-requires : goal.put_hex-a-requires

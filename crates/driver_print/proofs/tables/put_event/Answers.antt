@@ -2,7 +2,6 @@
 use Prim.Native.Nat.{◌+◌, ◌≤◌}
 use native.Mathlib.Omega.{arith}
 use lib.ListN.{length}
-use borrow.Author.Tests.{not-true, not-false}
 use Rattle.print.specs.Text.{column_room}
 use Rattle.print.specs.Name.{order_name_room}
 use Rattle.print.proofs.Digits.{column-most}
@@ -10,7 +9,6 @@ use Rattle.print.proofs.Lengths.{order-name-most}
 use Rattle.print.proofs.Texts.{put-nothing, put_then, put-left}
 use Rattle.driver_print.specs.Tables.{event_row, transaction_room, kind_room}
 use Rattle.driver_print.proofs.Texts.{transaction-most}
-use borrow.Author.Rules.{rules}
 use Rattle.driver_print.proofs.tables.put_event.Goals as goal
 
 pub returns-then-not-is_used : goal.returns-then-not-is_used

@@ -2,7 +2,6 @@
 use Prim.Native.Nat.{◌+◌, ◌≤◌}
 use native.Mathlib.Omega.{arith}
 use lib.ListN.{length}
-use borrow.Author.Tests.{eq-eqb, ne_eqb}
 use Rattle.print.specs.Text.{column_room}
 use Rattle.print.proofs.Digits.{column-most}
 use Rattle.print.proofs.Texts.{put-nothing, put_then, put-left}
@@ -10,9 +9,9 @@ use Rattle.driver_print.specs.Tables.{file_row, content_room}
 use borrow.Author.Rules.{rules}
 use Rattle.driver_print.proofs.tables.put_file.Goals as goal
 
-pub returns-then-content-eq0 : goal.returns-then-content-eq0
+pub returns-then-is_empty : goal.returns-then-is_empty
 unfolding file_row
-returns-then-content-eq0 c = rw (eq-eqb _ _ c.if-content-eq0.true) (put-nothing _ _ (omega arith))
+returns-then-is_empty c = rw (← c.is_empty.ensures, c.if-is_empty.true) (put-nothing _ _ (omega arith))
 
 pub put_column-b-requires : goal.put_column-b-requires
 put_column-b-requires c =
@@ -28,5 +27,5 @@ put_content-requires c =
 pub returns : goal.returns
 unfolding file_row
 returns c =
-    rw (ne_eqb _ _ c.if-content-eq0.false)
+    rw (← c.is_empty.ensures, c.if-is_empty.false)
     (put_then c.put_column-a.ensures (put_then c.put_column-b.ensures c.put_content.ensures))

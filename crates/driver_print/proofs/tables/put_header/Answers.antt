@@ -1,6 +1,5 @@
 -- Table by table; the book's header goes on with its last column. Assumes nothing.
 use Rattle.print.proofs.Texts.{put_then}
-use borrow.Author.Rules.{rules}
 use Rattle.driver_print.proofs.tables.put_header.Goals as goal
 
 pub returns-in-Book : goal.returns-in-Book

@@ -1,7 +1,6 @@
 -- Kind by kind. Assumes nothing.
 use native.Mathlib.Omega.{arith}
 use Rattle.print.proofs.Texts.{put-nothing}
-use borrow.Author.Rules.{rules}
 use Rattle.driver_print.proofs.tables.put_kind.Goals as goal
 
 pub returns-in-Unused : goal.returns-in-Unused

@@ -1,6 +1,5 @@
 -- The test tells whether there is a row; the book's columns, then the content. Assumes nothing.
 use native.Mathlib.Omega.{arith}
-use borrow.Author.Tests.{not-true, not-false}
 use Rattle.print.specs.Book.{order_columns_room}
 use Rattle.print.proofs.Lengths.{columns-most}
 use Rattle.print.proofs.Texts.{put-nothing, put_then, put-left}

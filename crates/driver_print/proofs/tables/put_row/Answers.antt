@@ -1,8 +1,8 @@
 -- Table by table: each row by its own function, on what the unit and the stores have for it. Assumes nothing.
 use Prim.Native.Nat.{◌<◌}
-use mathlib.Core.Path.{◌≡◌, sym, ◌∙◌}
+use mathlib.Core.Path.{◌≡◌}
 use native.Mathlib.Omega.{arith}
-use lib.ListN.{length, length-map}
+use lib.ListN.{length}
 use Rattle.journal.specs.Events.{record_count}
 use Rattle.bank_state.specs.Limits.{place_count}
 use Rattle.unit_state.specs.Records.{run_count}
@@ -22,47 +22,47 @@ place_at-p-requires c =
 pub put_order-requires : goal.put_order-requires
 put_order-requires c = (rw c.in-Book.is at c.requires.0, rw c.file_of.ensures (file-fits _ _ _))
 
-pub file_length-requires : goal.file_length-requires
-file_length-requires c =
+pub file_length-length-requires : goal.file_length-length-requires
+file_length-length-requires c =
     let mailbox-below : c.args.i < place_count = rw c.in-Mailboxes.is at c.requires.1 in
     (search rules, mailbox-below)
 
 pub put_file-requires : goal.put_file-requires
 put_file-requires c = (rw c.in-Mailboxes.is at c.requires.0, rw c.file_of-in-Mailboxes.ensures (file-fits _ _ _))
 
-pub offset_bounds-u-i : goal.offset_bounds-u-i
-offset_bounds-u-i c =
+pub offset_bounds-shown-i : goal.offset_bounds-shown-i
+offset_bounds-shown-i c =
     let run-below : c.args.i < run_count = rw c.in-Words.is at c.requires.1 in
     omega (arith, run-below)
 
-pub bounds-u-i : goal.bounds-u-i
-bounds-u-i c =
+pub bounds-shown-i : goal.bounds-shown-i
+bounds-shown-i c =
     let run-below : c.args.i < run_count = rw c.in-Words.is at c.requires.1 in
     omega (arith, run-below)
 
 pub put_word-requires : goal.put_word-requires
 put_word-requires c = rw c.in-Words.is at c.requires.0
 
-pub offset_bounds-u-i-in-Files : goal.offset_bounds-u-i-in-Files
-offset_bounds-u-i-in-Files c =
+pub offset_bounds-shown-i-in-Files : goal.offset_bounds-shown-i-in-Files
+offset_bounds-shown-i-in-Files c =
     let run-below-2 : c.args.i < run_count = rw c.in-Files.is at c.requires.1 in
     omega (arith, run-below-2)
 
-pub bounds-u-i-in-Files : goal.bounds-u-i-in-Files
-bounds-u-i-in-Files c =
+pub bounds-shown-i-in-Files : goal.bounds-shown-i-in-Files
+bounds-shown-i-in-Files c =
     let run-below-2 : c.args.i < run_count = rw c.in-Files.is at c.requires.1 in
     omega (arith, run-below-2)
 
 pub put_file-requires-in-Files : goal.put_file-requires-in-Files
 put_file-requires-in-Files c = (rw c.in-Files.is at c.requires.0, rw c.file_of-in-Files.ensures (file-fits _ _ _))
 
-pub offset_bounds-u-i-in-Journal : goal.offset_bounds-u-i-in-Journal
-offset_bounds-u-i-in-Journal c =
+pub offset_bounds-shown-i-in-Journal : goal.offset_bounds-shown-i-in-Journal
+offset_bounds-shown-i-in-Journal c =
     let record-below : c.args.i < record_count = rw c.in-Journal.is at c.requires.1 in
     omega (arith, record-below)
 
-pub bounds-u-i-in-Journal : goal.bounds-u-i-in-Journal
-bounds-u-i-in-Journal c =
+pub bounds-shown-i-in-Journal : goal.bounds-shown-i-in-Journal
+bounds-shown-i-in-Journal c =
     let record-below : c.args.i < record_count = rw c.in-Journal.is at c.requires.1 in
     omega (arith, record-below)
 
@@ -76,23 +76,23 @@ returns-in-Book c =
 
 pub returns-in-Mailboxes : goal.returns-in-Mailboxes
 returns-in-Mailboxes c =
-    rw (c.in-Mailboxes.is, ← c.file_length.ensures)
+    rw (c.in-Mailboxes.is, ← c.file_length-length.ensures)
     (rw c.file_of-in-Mailboxes.ensures at c.put_file.ensures)
 
 pub returns-in-Words : goal.returns-in-Words
 returns-in-Words c =
     let run-below : c.args.i < run_count = rw c.in-Words.is at c.requires.1 in
-    let sixteen : length c.args.u.runs ≡ run_count = c.well_formed.1.1.1.0.1.1.0.1.0.1 in
-    let h : c.args.i < length c.args.u.runs = omega (arith, run-below, sixteen) in
-    rw c.in-Words.is (word_of c.args.u.runs c.args.i _ h c.put_word.ensures)
+    let sixteen : length c.args.shown.now.unit.runs ≡ run_count = search rules in
+    let h : c.args.i < length c.args.shown.now.unit.runs = omega (arith, run-below, sixteen) in
+    rw c.in-Words.is (word_of c.args.shown.now.unit.runs c.args.i _ h c.put_word.ensures)
 
 pub returns-in-Files : goal.returns-in-Files
 returns-in-Files c =
     let run-below-2 : c.args.i < run_count = rw c.in-Files.is at c.requires.1 in
-    let sixteen : length c.args.u.runs ≡ run_count = c.well_formed.1.1.1.0.1.1.0.1.0.1 in
-    let h : c.args.i < length c.args.u.runs = omega (arith, run-below-2, sixteen) in
+    let sixteen : length c.args.shown.now.unit.runs ≡ run_count = search rules in
+    let h : c.args.i < length c.args.shown.now.unit.runs = omega (arith, run-below-2, sixteen) in
     rw c.in-Files.is
-    (file-of c.args.u.runs c.args.i _ h c.args.files.now
+    (file-of c.args.shown.now.unit.runs c.args.i _ h c.args.shown.now.files.now
     (rw (c.file_of-in-Files.ensures, c.held_by.ensures) at c.put_file-in-Files.ensures))
 
 pub returns-in-Journal : goal.returns-in-Journal

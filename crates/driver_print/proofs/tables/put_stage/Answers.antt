@@ -1,7 +1,6 @@
 -- `put_stage` meets its contract. Assumes nothing.
 use native.Mathlib.Omega.{arith}
 use Rattle.print.proofs.Texts.{put-nothing}
-use borrow.Author.Rules.{rules}
 use Rattle.driver_print.proofs.tables.put_stage.Goals as goal
 
 pub returns-in-NotBegun : goal.returns-in-NotBegun

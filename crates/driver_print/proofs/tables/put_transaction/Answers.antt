@@ -1,9 +1,8 @@
 -- The sixteen bytes of the ID in hexadecimal. Assumes nothing.
 use Rattle.driver_print.specs.Tables.{transaction_text}
-use borrow.Author.Rules.{rules}
 use Rattle.driver_print.proofs.tables.put_transaction.Goals as goal
 
 pub returns : goal.returns
 unfolding transaction_text
 returns c =
-    rw (← c.digits-id.ensures.0) c.put_hex.ensures
+    rw (← c.digits.ensures.0) c.put_hex.ensures

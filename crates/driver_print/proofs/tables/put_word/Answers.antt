@@ -2,14 +2,12 @@
 use Prim.Native.Nat.{◌+◌, ◌≤◌}
 use lib.ListN.{length}
 use native.Mathlib.Omega.{arith}
-use borrow.Author.Tests.{not-true, not-false}
 use Rattle.print.specs.Text.{column_room}
 use Rattle.print.proofs.Digits.{column-most}
 use Rattle.print.proofs.Texts.{put-nothing, put_then, put-left}
 use Rattle.print.specs.Closing.{closing_room}
 use Rattle.driver_print.specs.Tables.{word_row}
 use Rattle.driver_print.proofs.Texts.{stage-most}
-use borrow.Author.Rules.{rules}
 use Rattle.driver_print.proofs.tables.put_word.Goals as goal
 
 pub returns-then-not-is_begun : goal.returns-then-not-is_begun

@@ -6,10 +6,7 @@ pub loop-calls-init : goal.loop-calls-init
 loop-calls-init g c = no-calls _
 
 pub loop-calls-preserved : goal.loop-calls-preserved
-loop-calls-preserved g c = calls-on _ _ _ c.loop-calls.invariant c.step-more.ensures
+loop-calls-preserved g c = calls-on _ _ _ c.loop-calls.invariant c.step.ensures
 
-pub returns-else-more : goal.returns-else-more
-returns-else-more g c = c.loop-calls.invariant
-
-pub returns-after-loop-calls : goal.returns-after-loop-calls
-returns-after-loop-calls g c = c.loop-calls.invariant
+pub returns-then-not-step : goal.returns-then-not-step
+returns-then-not-step g c = calls-on _ _ _ c.loop-calls.invariant c.step.ensures

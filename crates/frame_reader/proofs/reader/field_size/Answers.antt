@@ -16,39 +16,27 @@ overflow_add-width c = omega (arith, c.width.ensures, width-most _ c.requires)
 pub returns-then-rest-width : goal.returns-then-rest-width
 returns-then-rest-width c = sym (none-short _ _ (omega (arith, c.width.ensures)))
 
-pub returns-then-wide-tag : goal.returns-then-wide-tag
-returns-then-wide-tag c = sym (none_other _ _ (λ e. c.if-wide-tag.true (c.wide.ensures ∙ e)))
-
-pub overflow_mul-n : goal.overflow_mul-n
-overflow_mul-n c = omega (arith, c.wide-2.ensures, c.type_inv.rest 1)
-
-pub overflow_add-n : goal.overflow_add-n
-overflow_add-n c = omega (arith, c.wide-2.ensures, c.type_inv.rest 1)
-
-pub overflow_add-n-2 : goal.overflow_add-n-2
-overflow_add-n-2 c =
-    let high = c.shared_slice_known-3-1.given 1 in
-    let low = c.type_inv.rest 2 in
-    omega (arith, c.wide-2.ensures, high, c.wide-3.ensures, low)
+pub returns-then-from-tag : goal.returns-then-from-tag
+returns-then-from-tag c = sym (none_other _ _ (λ e. c.if-from-tag.true (c.from.ensures ∙ e)))
 
 pub returns-then-rest-n : goal.returns-then-rest-n
 unfolding stands field_size
 returns-then-rest-n c =
     let long = le-leb 3 (length c.args.rest.now) (omega arith) in
-    let tag = eq-eqb _ _ c.if-wide-tag.false in
+    let tag = eq-eqb _ _ c.if-from-tag.false in
     let short = lt-leb _ _ c.if-rest-n.true in
-    sym (rw (long, ← c.wide.ensures, tag, ← c.wide-2.ensures, ← c.wide-3.ensures, short))
+    sym (rw (long, ← c.from.ensures, tag, ← c.from-2.ensures, ← c.from-3.ensures, short))
 
 pub returns-then-well_formed : goal.returns-then-well_formed
 unfolding stands field_size
 returns-then-well_formed c =
     let if-formed : field_size c.args.tag c.args.rest.now
     ≡ cond c.well_formed-2.result
-    (3 + c.wide-2.result * 256 + c.wide-3.result)
+    (3 + c.from-2.result * 256 + c.from-3.result)
     0 = let long = le-leb 3 (length c.args.rest.now) (omega arith) in
-    let tag = eq-eqb _ _ c.if-wide-tag.false in
+    let tag = eq-eqb _ _ c.if-from-tag.false in
     let room = le-leb _ _ c.if-rest-n.false in
-    rw (long, ← c.wide.ensures, tag, ← c.wide-2.ensures, ← c.wide-3.ensures, room, ← c.well_formed-2.ensures) in
+    rw (long, ← c.from.ensures, tag, ← c.from-2.ensures, ← c.from-3.ensures, room, ← c.well_formed-2.ensures) in
     sym (if-formed ∙ rw c.if-well_formed.true)
 
 pub returns-else-well_formed : goal.returns-else-well_formed
@@ -56,9 +44,9 @@ unfolding stands field_size
 returns-else-well_formed c =
     let if-formed : field_size c.args.tag c.args.rest.now
     ≡ cond c.well_formed-2.result
-    (3 + c.wide-2.result * 256 + c.wide-3.result)
+    (3 + c.from-2.result * 256 + c.from-3.result)
     0 = let long = le-leb 3 (length c.args.rest.now) (omega arith) in
-    let tag = eq-eqb _ _ c.if-wide-tag.false in
+    let tag = eq-eqb _ _ c.if-from-tag.false in
     let room = le-leb _ _ c.if-rest-n.false in
-    rw (long, ← c.wide.ensures, tag, ← c.wide-2.ensures, ← c.wide-3.ensures, room, ← c.well_formed-2.ensures) in
+    rw (long, ← c.from.ensures, tag, ← c.from-2.ensures, ← c.from-3.ensures, room, ← c.well_formed-2.ensures) in
     sym (if-formed ∙ rw c.if-well_formed.false)

@@ -53,8 +53,8 @@ value-v-requires c =
     let n : c.field_size-n.result ≡ field_size a.tag a.rest.now = c.field_size-n.ensures in
     (c.requires.0, λ w. rw n (content-fits a.tag a.rest.now (stands) w))
 
-pub overflow_add-tags : goal.overflow_add-tags
-overflow_add-tags c =
+pub overflow_add-fields : goal.overflow_add-fields
+overflow_add-fields c =
     let t = c.args.tag in
     omega (arith, one_shifted t (search rules), pow_mono {i = t} {j = 30} (search rules), c.requires.1)
 

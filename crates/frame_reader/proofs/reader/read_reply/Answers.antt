@@ -5,4 +5,4 @@ use Rattle.frame_reader.proofs.reader.read_reply.Goals as goal
 pub returns : goal.returns
 unfolding read_reply
 returns c =
-    rw (← c.parse-p.ensures.0, ← c.form.ensures, ← c.is_reply_form.ensures) c.fields_if.ensures
+    rw (← c.parse.ensures.0, ← c.form.ensures, ← c.is_reply_form.ensures) c.fields_if.ensures

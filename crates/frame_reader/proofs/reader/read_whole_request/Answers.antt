@@ -6,4 +6,4 @@ pub returns : goal.returns
 unfolding read_request
 returns c =
     let f = c.form.ensures in
-    (rw (← c.parse-p.ensures.0, ← f, ← c.is_request_form.ensures) c.fields_if-fields.ensures, c.parse-p.ensures.1)
+    (rw (← c.parse-p.ensures.0, ← f, ← c.is_request_form.ensures) c.fields_if.ensures, c.parse-p.ensures.1)

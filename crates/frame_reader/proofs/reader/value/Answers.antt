@@ -40,9 +40,9 @@ leading-requires-2 c =
 pub returns : goal.returns
 returns c =
     let a = c.args in
-    let k = c.before_eight-k.result in
+    let k = c.saturating_sub-k.result in
     let w = c.width-n.ensures in
     let rest = take_rest a.content.now k in
     value-is a.tag a.content.now c.requires.0 c.requires.1 k c.leading.result c.leading-2.result
-    (c.before_eight-k.ensures ∙ ap (λ (n : ℕ). n - 8) w) (search rules) c.leading.ensures.0
+    (c.saturating_sub-k.ensures ∙ ap (λ (n : ℕ). n - 8) w) (search rules) c.leading.ensures.0
     (c.leading-2.ensures.0 ∙ rw (rest, w))

@@ -1,25 +1,14 @@
--- `spelled` meets its contract. The loop's invariant: every byte passed is one of the characters. Assumes nothing.
-use mathlib.Core.Path.{refl, sym, ◌∙◌}
-use borrow.Author.Rules.{rules}
-use Rattle.frame_row.proofs.Contents.{spelled_step, spelled-end}
+-- `spelled` meets its contract: `all` tests each byte in turn.
+use Rattle.std.proofs.Common.{◌∙◌, sym, rules}
+use Rattle.std.proofs.lemmas.Iterator.{YieldsList-from_slice}
+use Rattle.std.proofs.lemmas.Iterator.Search.{all_from_yields_List}
+use Rattle.frame_table.specs.Table.{allowed}
+use Rattle.frame_row.proofs.Contents.{spelled-all}
 use Rattle.frame_row.proofs.content.spelled.Goals as goal
-
-pub loop-i-init : goal.loop-i-init
-loop-i-init c = (search rules, refl)
-
-pub returns-then-not-allowed : goal.returns-then-not-allowed
-returns-then-not-allowed c =
-    let a = c.args in
-    let e = sym c.allowed.ensures ∙ c.if-not-allowed.true in
-    sym (c.loop-i.invariant.1 ∙ spelled_step a.characters a.text.now c.loop-i.i (search rules) ∙ rw e)
-
-pub loop-i-preserved : goal.loop-i-preserved
-loop-i-preserved c =
-    let a = c.args in
-    let e = sym c.allowed.ensures ∙ c.if-not-allowed.false in
-    (search rules, c.loop-i.invariant.1 ∙ spelled_step a.characters a.text.now c.loop-i.i (search rules) ∙ rw e)
 
 pub returns : goal.returns
 returns c =
     let a = c.args in
-    sym (c.loop-i.invariant.1 ∙ spelled-end a.characters a.text.now c.loop-i.i (search rules))
+    all_from_yields_List (allowed a.characters) _ _ _ c.all.ensures.ran (YieldsList-from_slice a.text.now cc)
+    (λ x b q k. search rules)
+    ∙ sym (spelled-all a.characters a.text.now)

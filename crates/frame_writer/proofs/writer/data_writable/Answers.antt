@@ -1,23 +1,16 @@
 -- `data_writable` meets its contract. Assumes nothing.
-use mathlib.Core.Path.{sym, ◌∙◌}
-use borrow.Author.Tests.{eq-eqb, ne_eqb}
+use Rattle.std.proofs.Common.{sym, ◌∙◌}
 use Rattle.frame_writer.proofs.Numbers.{data-fits}
 use Rattle.frame_writer.proofs.writer.data_writable.Goals as goal
 
-pub returns-then-high-ne0 : goal.returns-then-high-ne0
-returns-then-high-ne0 c =
+pub returns-else-eq : goal.returns-else-eq
+returns-else-eq c =
     let a = c.args in
-    sym (data-fits a.high a.low a.«data».now ∙ rw (ne_eqb 0 a.high (λ e. c.if-high-ne0.true (sym e))))
+    c.if-eq.false
+    ∙ sym (data-fits a.number.high a.number.low a.«data».now ∙ rw (sym c.eq.ensures ∙ c.if-eq.false))
 
-pub returns-then-low-ne0 : goal.returns-then-low-ne0
-returns-then-low-ne0 c =
+pub returns-then-eq : goal.returns-then-eq
+returns-then-eq c =
     let a = c.args in
-    let hi = eq-eqb 0 a.high (sym c.if-high-ne0.false) in
-    sym (data-fits a.high a.low a.«data».now ∙ rw (hi, ne_eqb 0 a.low (λ e. c.if-low-ne0.true (sym e))))
-
-pub returns : goal.returns
-returns c =
-    let a = c.args in
-    let hi = eq-eqb 0 a.high (sym c.if-high-ne0.false) in
-    let lo = eq-eqb 0 a.low (sym c.if-low-ne0.false) in
-    c.well_formed-2.ensures ∙ sym (data-fits a.high a.low a.«data».now ∙ rw (hi, lo))
+    c.well_formed-then-eq.ensures
+    ∙ sym (data-fits a.number.high a.number.low a.«data».now ∙ rw (sym c.eq.ensures ∙ c.if-eq.true))

@@ -15,21 +15,19 @@ number_spelled-requires c =
     omega (arith, c.width.ensures, width_narrow c.args.tag c.requires.0 c.requires.1)
 
 pub returns-in-Any : goal.returns-in-Any
-returns-in-Any c =
-    let a = c.args in
-    sym (listed-as a.tag _ _ (sym c.values_of-values.ensures ∙ c.in-Any.is))
+returns-in-Any c = sym (listed-as c.args.tag _ _ (sym c.in-Any.ensures))
 
 pub returns-in-Range : goal.returns-in-Range
 returns-in-Range c =
     let a = c.args in
-    let e = sym c.values_of-values.ensures ∙ c.in-Range.is in
+    let high = a.number.high in
+    let low = a.number.low in
+    let e = sym c.in-Range.ensures in
     let w = range-narrow a.tag _ _ c.requires.0 e in
-    let x : a.low ≡ a.high * 2 ^ 64 + a.low = low-alone a.high a.low (width a.tag) w.1 c.requires.2 in
-    let n = x ∙ sym (number-bytes_of (width a.tag) (a.high * 2 ^ 64 + a.low) c.requires.2) in
+    let x : low ≡ high * 2 ^ 64 + low = low-alone high low (width a.tag) w.1 c.requires.2 in
+    let n = x ∙ sym (number-bytes_of (width a.tag) (high * 2 ^ 64 + low) c.requires.2) in
     c.in_range.ensures ∙ ap (in_range _ _) n ∙ sym (listed-as a.tag _ _ e)
 
 pub returns-in-Text : goal.returns-in-Text
 returns-in-Text c =
-    let a = c.args in
-    let e = sym c.values_of-values.ensures ∙ c.in-Text.is in
-    c.number_spelled.ensures ∙ rw c.width.ensures (sym (listed-as a.tag _ _ e))
+    c.number_spelled.ensures ∙ rw c.width.ensures (sym (listed-as c.args.tag _ _ (sym c.in-Text.ensures)))

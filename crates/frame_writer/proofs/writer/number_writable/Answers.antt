@@ -1,24 +1,18 @@
 -- `number_writable` meets its contract. Assumes nothing.
-use mathlib.Core.Path.{sym, ◌∙◌}
-use borrow.Author.Rules.{rules}
-use borrow.Author.Tests.{ltb-true}
+use Rattle.std.proofs.Common.{sym, ◌∙◌, rules}
 use Rattle.frame_writer.proofs.Numbers.{number_fits, number-over}
 use Rattle.frame_writer.proofs.writer.number_writable.Goals as goal
 
-pub returns-then-not-fits : goal.returns-then-not-fits
-returns-then-not-fits c =
+pub returns-else-fits : goal.returns-else-fits
+returns-else-fits c d =
     let a = c.args in
-    let e = sym (rw c.width.ensures at c.fits.ensures) ∙ c.if-not-fits.true in
-    sym (number-over a.tag a.high a.low a.«data».now c.requires.0 c.requires.1 (search rules) e)
+    let e = sym (rw c.width.ensures at c.fits.ensures) ∙ c.if-fits.false in
+    c.if-fits.false
+    ∙ sym (number-over a.tag a.number.high a.number.low d c.requires.0 c.requires.1 (search rules) e)
 
-pub number_listed-requires : goal.number_listed-requires
-number_listed-requires c =
-    let e = sym (rw c.width.ensures at c.fits.ensures) ∙ c.if-not-fits.false in
-    (c.requires.0, c.requires.1, ltb-true _ _ e)
-
-pub returns : goal.returns
-returns c =
+pub returns-then-fits : goal.returns-then-fits
+returns-then-fits c d =
     let a = c.args in
-    let e = sym (rw c.width.ensures at c.fits.ensures) ∙ c.if-not-fits.false in
+    let e = sym (rw c.width.ensures at c.fits.ensures) ∙ c.if-fits.true in
     c.number_listed.ensures
-    ∙ sym (number_fits a.tag a.high a.low a.«data».now c.requires.0 c.requires.1 (search rules) e)
+    ∙ sym (number_fits a.tag a.number.high a.number.low d c.requires.0 c.requires.1 (search rules) e)

@@ -17,7 +17,6 @@ loop-tag-init c =
     writing_start a.fields a.«data».now a.out.now
 
 pub put-at-requires : goal.put-at-requires
-unfolding content_of
 put-at-requires c =
     let fits : let n = length (frame_of c.args.fields c.args.«data».now) in
     (n ≤ frame_limit) × (n ≤ length c.args.out.now) = let a = c.args in
@@ -29,7 +28,6 @@ put-at-requires c =
     (search rules, omega (arith, (fits).0), omega (arith, (fits).1, c.loop-tag.invariant.long))
 
 pub loop-tag-preserved : goal.loop-tag-preserved
-unfolding content_of
 loop-tag-preserved c =
     let fits : let n = length (frame_of c.args.fields c.args.«data».now) in
     (n ≤ frame_limit) × (n ≤ length c.args.out.now) = let a = c.args in

@@ -6,9 +6,9 @@ use Rattle.image.specs.Image.{pack, stores}
 use Rattle.image.proofs.Loops.{Putting}
 use Rattle.image.proofs.codec.put_all.Given as goal
 
-abbrev pub invariant-loop-w : goal.invariant-loop-w
-invariant-loop-w l = Putting (rest l.c) l.numbers (stores l.orders l.mailboxes) l.buffer l.k l.n l.at (length l.initial.buffer)
-    (overwrite l.initial.buffer 0 (pack (rest l.initial.c) l.numbers (stores l.orders l.mailboxes)))
-
-abbrev pub decreases-loop-w : goal.decreases-loop-w
-decreases-loop-w l = length (rest l.c)
+abbrev pub invariant-loop-entry : goal.invariant-loop-entry
+invariant-loop-entry l =
+    goal.iterator-loop-entry.can_next l.entry-iterator
+    × goal.iterator-loop-entry.is_finite l.entry-iterator
+    × Putting (rest l.entry-iterator) l.numbers (stores l.orders l.mailboxes) l.buffer l.k l.n l.at (length l.initial.buffer)
+    (overwrite l.initial.buffer 0 (pack (rest l.fn.from) l.numbers (stores l.orders l.mailboxes)))

@@ -2,6 +2,11 @@
 use mathlib.Core.Path.{sym, ◌∙◌}
 use Rattle.image.proofs.Calls.{rest-items, numbers-size, image-long, image-bytes, store-size, lent-numbers, lent-orders, lent-mailboxes, lent-all, taken-lengths, taken-other, taken-done}
 use Rattle.image.proofs.codec.read.Goals as goal
+use Rattle.image.proofs.codec.read.Goals.{
+  then-numbers-f-via-then-numbers-f,
+  then-numbers-f-via-else-numbers-f+then-orders-f,
+  then-numbers-f-via-else-numbers-f+else-orders-f+then-mailboxes-f,
+}
 
 pub returns-then-numbers-f : goal.returns-then-numbers-f
 returns-then-numbers-f c =
@@ -9,23 +14,15 @@ returns-then-numbers-f c =
     let xs = a.numbers.now in
     let orders = a.orders.now in
     let boxes = a.mailboxes.now in
-    taken-lengths c.image_sizes-f.result c.image_sizes-f.ensures xs orders boxes a.image.now (lent-numbers c.image_sizes-f.result c.image_sizes-f.ensures xs orders boxes c.if-numbers-f.true)
-
-pub returns-then-orders-f : goal.returns-then-orders-f
-returns-then-orders-f c =
-    let a = c.args in
-    let xs = a.numbers.now in
-    let orders = a.orders.now in
-    let boxes = a.mailboxes.now in
-    taken-lengths c.image_sizes-f.result c.image_sizes-f.ensures xs orders boxes a.image.now (lent-orders c.image_sizes-f.result c.image_sizes-f.ensures xs orders boxes c.if-numbers-f.false c.if-orders-f.true)
-
-pub returns-then-mailboxes-f : goal.returns-then-mailboxes-f
-returns-then-mailboxes-f c =
-    let a = c.args in
-    let xs = a.numbers.now in
-    let orders = a.orders.now in
-    let boxes = a.mailboxes.now in
-    taken-lengths c.image_sizes-f.result c.image_sizes-f.ensures xs orders boxes a.image.now (lent-mailboxes c.image_sizes-f.result c.image_sizes-f.ensures xs orders boxes c.if-numbers-f.false c.if-orders-f.false c.if-mailboxes-f.true)
+    let f = c.image_sizes-f in
+    taken-lengths f.result f.ensures xs orders boxes a.image.now
+    (elim c.then-numbers-f.branch [
+      | then-numbers-f-via-then-numbers-f w ↦ lent-numbers f.result f.ensures xs orders boxes w.if-numbers-f.true
+      | then-numbers-f-via-else-numbers-f+then-orders-f w ↦
+          lent-orders f.result f.ensures xs orders boxes w.if-numbers-f.false w.if-orders-f.true
+      | then-numbers-f-via-else-numbers-f+else-orders-f+then-mailboxes-f w ↦
+          lent-mailboxes f.result f.ensures xs orders boxes w.if-numbers-f.false w.if-orders-f.false w.if-mailboxes-f.true
+    ])
 
 pub returns-then-not-is_image : goal.returns-then-not-is_image
 returns-then-not-is_image c =

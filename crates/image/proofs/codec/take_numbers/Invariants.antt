@@ -5,8 +5,8 @@ use Rattle.image.specs.Image.{numbers_of}
 use Rattle.image.proofs.Reading.{Taking}
 use Rattle.image.proofs.codec.take_numbers.Given as goal
 
-abbrev pub invariant-loop-w : goal.invariant-loop-w
-invariant-loop-w l = Taking (rest l.c) l.image l.numbers l.at l.k (length l.initial.numbers) (numbers_of (rest l.initial.c) l.image)
-
-abbrev pub decreases-loop-w : goal.decreases-loop-w
-decreases-loop-w l = length (rest l.c)
+abbrev pub invariant-loop-entry : goal.invariant-loop-entry
+invariant-loop-entry l =
+    goal.iterator-loop-entry.can_next l.entry-iterator
+    × goal.iterator-loop-entry.is_finite l.entry-iterator
+    × Taking (rest l.entry-iterator) l.image l.numbers l.at l.k (length l.initial.numbers) (numbers_of (rest l.fn.from) l.image)

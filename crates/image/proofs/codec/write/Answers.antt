@@ -4,6 +4,11 @@ use native.Mathlib.Omega.{arith}
 use Rattle.image.specs.Image.{image_of}
 use Rattle.image.proofs.Calls.{rest-items, numbers-size, image-size, lent-numbers, lent-orders, lent-mailboxes, lent-all, lent-stores, written-lengths, written-short, written-unfit, written-done}
 use Rattle.image.proofs.codec.write.Goals as goal
+use Rattle.image.proofs.codec.write.Goals.{
+  then-numbers-f-via-then-numbers-f,
+  then-numbers-f-via-else-numbers-f+then-orders-f,
+  then-numbers-f-via-else-numbers-f+else-orders-f+then-mailboxes-f,
+}
 
 pub returns-then-numbers-f : goal.returns-then-numbers-f
 returns-then-numbers-f c =
@@ -11,23 +16,15 @@ returns-then-numbers-f c =
     let xs = a.numbers.now in
     let orders = a.orders.now in
     let boxes = a.mailboxes.now in
-    written-lengths c.image_sizes-f.result c.image_sizes-f.ensures xs orders boxes a.buffer.now (lent-numbers c.image_sizes-f.result c.image_sizes-f.ensures xs orders boxes c.if-numbers-f.true)
-
-pub returns-then-orders-f : goal.returns-then-orders-f
-returns-then-orders-f c =
-    let a = c.args in
-    let xs = a.numbers.now in
-    let orders = a.orders.now in
-    let boxes = a.mailboxes.now in
-    written-lengths c.image_sizes-f.result c.image_sizes-f.ensures xs orders boxes a.buffer.now (lent-orders c.image_sizes-f.result c.image_sizes-f.ensures xs orders boxes c.if-numbers-f.false c.if-orders-f.true)
-
-pub returns-then-mailboxes-f : goal.returns-then-mailboxes-f
-returns-then-mailboxes-f c =
-    let a = c.args in
-    let xs = a.numbers.now in
-    let orders = a.orders.now in
-    let boxes = a.mailboxes.now in
-    written-lengths c.image_sizes-f.result c.image_sizes-f.ensures xs orders boxes a.buffer.now (lent-mailboxes c.image_sizes-f.result c.image_sizes-f.ensures xs orders boxes c.if-numbers-f.false c.if-orders-f.false c.if-mailboxes-f.true)
+    let f = c.image_sizes-f in
+    written-lengths f.result f.ensures xs orders boxes a.buffer.now
+    (elim c.then-numbers-f.branch [
+      | then-numbers-f-via-then-numbers-f w ↦ lent-numbers f.result f.ensures xs orders boxes w.if-numbers-f.true
+      | then-numbers-f-via-else-numbers-f+then-orders-f w ↦
+          lent-orders f.result f.ensures xs orders boxes w.if-numbers-f.false w.if-orders-f.true
+      | then-numbers-f-via-else-numbers-f+else-orders-f+then-mailboxes-f w ↦
+          lent-mailboxes f.result f.ensures xs orders boxes w.if-numbers-f.false w.if-orders-f.false w.if-mailboxes-f.true
+    ])
 
 pub returns-then-buffer-f : goal.returns-then-buffer-f
 returns-then-buffer-f c =

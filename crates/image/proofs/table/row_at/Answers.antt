@@ -9,6 +9,6 @@ pub returns-then-i-lt-FIELD_COUNT : goal.returns-then-i-lt-FIELD_COUNT
 unfolding row_at
 returns-then-i-lt-FIELD_COUNT c = refl
 
-pub returns : goal.returns
+pub returns-else-i-lt-FIELD_COUNT : goal.returns-else-i-lt-FIELD_COUNT
 unfolding row_at
-returns c = sym (get_or-eq_default image_fields no_row {n = c.args.i} (omega arith))
+returns-else-i-lt-FIELD_COUNT c = sym (get_or-eq_default image_fields no_row {n = c.args.i} (omega arith))

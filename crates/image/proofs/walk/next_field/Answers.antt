@@ -10,13 +10,14 @@ pub returns-then-c-ne0 : goal.returns-then-c-ne0
 unfolding step_items step_width
 returns-then-c-ne0 c =
     let a = c.args.c in
-    (sym (rest-store a (a.store - 1) c.requires.0 c.requires.1 (omega arith)), omega arith)
+    (rw c.start.ensures (sym (rest-store a (a.store - 1) c.requires.0 c.requires.1 (omega arith))), omega arith)
 
 pub returns-then-c-ne0-2 : goal.returns-then-c-ne0-2
 unfolding step_items step_width
 returns-then-c-ne0-2 c =
     let a = c.args.c in (
-      sym (rest-field a (a.left - 1) c.row_at-r.result c.row_at-r.ensures c.requires.0 c.requires.1 (omega arith) (omega arith)),
+      rw c.start-then-c-ne0-2.ensures
+          (sym (rest-field a (a.left - 1) c.row_at-r.result c.row_at-r.ensures c.requires.0 c.requires.1 (omega arith) (omega arith))),
       omega arith,
     )
 

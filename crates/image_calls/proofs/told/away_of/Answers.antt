@@ -1,10 +1,9 @@
 -- An image that is written has its length. Assumes nothing.
+use Rattle.std.specs.Prelude.{Ok}
 use mathlib.Core.Path.{ap}
 use Rattle.image.specs.declared.table.Sizes.{Sizes}
-use Rattle.image_calls.specs.declared.calls.Away.TheVariants as away
-use borrow.Author.Rules.{rules}
 use Rattle.image_calls.proofs.told.away_of.Goals as goal
 
-pub returns-in-Done : goal.returns-in-Done
-returns-in-Done c =
-    rw c.in-Done.is (ap (λ (x : Sizes). away.Length x.image) c.image_sizes.ensures)
+pub returns-in-Ok : goal.returns-in-Ok
+returns-in-Ok c =
+    rw c.in-Ok.is (ap (λ (x : Sizes). Ok x.image) c.image_sizes.ensures)

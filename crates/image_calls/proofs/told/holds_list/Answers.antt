@@ -2,25 +2,23 @@
 use native.Mathlib.Omega.{arith}
 use Rattle.image_calls.proofs.Tests.{image-short}
 use Rattle.image_calls.proofs.Taking.{places-within, parts-listed}
-use borrow.Author.Rules.{rules}
 use Rattle.image_calls.proofs.told.holds_list.Goals as goal
 
-pub overflow_add-orders_end : goal.overflow_add-orders_end
-overflow_add-orders_end c =
+pub overflow_add-orders : goal.overflow_add-orders
+overflow_add-orders c =
     omega (arith, image-short, (places-within c.image_sizes-f.result c.image_sizes-f.ensures).0)
 
-pub overflow_add-mailboxes_end : goal.overflow_add-mailboxes_end
-overflow_add-mailboxes_end c =
-    omega (arith, image-short, (places-within c.image_sizes-f.result c.image_sizes-f.ensures).1)
-
-pub slice_bounds-admitted-end : goal.slice_bounds-admitted-end
-slice_bounds-admitted-end c =
+pub slice_bounds-orders-end : goal.slice_bounds-orders-end
+slice_bounds-orders-end c =
     omega (arith, c.requires, (places-within c.image_sizes-f.result c.image_sizes-f.ensures).0)
 
-pub slice_bounds-admitted-end-2 : goal.slice_bounds-admitted-end-2
-slice_bounds-admitted-end-2 c =
-    let within = places-within c.image_sizes-f.result c.image_sizes-f.ensures in
-    omega (arith, c.requires, within.0, within.1)
+pub overflow_add-mailboxes : goal.overflow_add-mailboxes
+overflow_add-mailboxes c =
+    omega (arith, image-short, (places-within c.image_sizes-f.result c.image_sizes-f.ensures).1)
+
+pub slice_bounds-mailboxes-end : goal.slice_bounds-mailboxes-end
+slice_bounds-mailboxes-end c =
+    omega (arith, c.requires, (places-within c.image_sizes-f.result c.image_sizes-f.ensures).1)
 
 pub returns : goal.returns
 returns c =

@@ -2,7 +2,6 @@
 use Rattle.std.specs.Prelude.{◌≡◌, ◌≤◌, true, false, length}
 use mathlib.Core.Path.{sym, ap, ◌∙◌}
 use native.Mathlib.Omega.{arith}
-use borrow.Author.Tests.{not-true, not-false}
 use Rattle.image.specs.declared.table.Sizes.{Sizes}
 use Rattle.bank_session.specs.Session.{session}
 use Rattle.image_calls.specs.Calls.{image_length, sizes_right}

@@ -2,7 +2,6 @@
 use Rattle.std.specs.Prelude.{◌≡◌, true, false, length}
 use mathlib.Core.Path.{sym, ◌∙◌}
 use native.Mathlib.Omega.{arith}
-use borrow.Author.Tests.{not-true, not-false}
 use Rattle.bank_session.specs.Session.{session}
 use Rattle.image_calls.specs.Calls.{sizes_right, is_admitted_image}
 use Rattle.image_calls.proofs.Tests.{store-size, sizes-are, lengths-are}
@@ -57,5 +56,5 @@ returns c l e =
     let told = stores-taken a.image.now _ _ c.take_stores.ensures in
     done-is a.rows.now a.orders.now a.mailboxes.now l a.image.now right (holds) _ _ _ _ _
     (c.read_admitted.ensures.1 (c.if-not-read_admitted.false))
-    c.scatter.ensures c.row_from-row.ensures
+    c.scatter.ensures c.row_from.ensures
     told.0 told.1

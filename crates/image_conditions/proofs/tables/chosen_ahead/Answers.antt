@@ -1,33 +1,16 @@
--- `chosen_ahead` meets its contract. The loop's invariant: the count so far. Assumes nothing.
-use mathlib.Core.Path.{◌≡◌, sym, ap, ◌∙◌}
-use mathlib.Core.Bool.{Bool, cond}
-use native.Mathlib.Omega.{arith}
+-- `chosen_ahead` meets its contract: the filter keeps those that pass. Assumes nothing.
+use Rattle.std.proofs.Common.{refl, rules, tests, ◌∙◌}
+use Rattle.std.proofs.lemmas.Iterator.{YieldsList-from_range}
+use Rattle.std.proofs.lemmas.Iterator.Consumers.{YieldsList-at, YieldsList-from_filter, count_from_yields_List}
 use Rattle.bank_state.specs.Limits.{place_count}
-use Rattle.image_records.specs.Shapes.{count}
-use Rattle.image_conditions.specs.Conditions.{is_ahead, chosen_ahead}
-use Rattle.image_records.proofs.Shapes.{count_none, count_next}
-use borrow.Author.Rules.{rules}
+use Rattle.image_conditions.specs.Conditions.{chosen_ahead, is_ahead}
+use Rattle.image_conditions.proofs.Loops.{count-is}
 use Rattle.image_conditions.proofs.tables.chosen_ahead.Goals as goal
-
-pub loop-i-init : goal.loop-i-init
-loop-i-init c = (search rules, sym (count_none (is_ahead c.args.numbers.now)), search rules)
-
-pub overflow_add-k : goal.overflow_add-k
-overflow_add-k c = omega (arith, c.one_if-k.ensures.1)
-
-pub loop-i-preserved : goal.loop-i-preserved
-loop-i-preserved c =
-    let at-args = c.args in
-    let one = c.one_if-k.ensures in
-    let e = one.0 ∙ ap (λ (t : Bool). cond t 1 0) c.is_ahead.ensures in (
-      search rules,
-      omega (arith, c.loop-i.invariant.1, e, count_next (is_ahead at-args.numbers.now) c.loop-i.i),
-      omega (arith, one.1),
-    )
 
 pub returns : goal.returns
 unfolding chosen_ahead
 returns c =
-    let at-args = c.args in
-    let e : c.loop-i.i ≡ place_count = omega arith in
-    c.loop-i.invariant.1 ∙ ap (count (is_ahead at-args.numbers.now)) e
+    count_from_yields_List c.filter.result _ c.count.ensures.ran
+    (YieldsList-from_filter _ (is_ahead c.args.numbers.now) (YieldsList-at c.filter.ensures.source (YieldsList-from_range 0 place_count place_count refl refl))
+    c.filter.ensures.closure (λ x r q k. search (rules, tests)))
+    ∙ count-is (is_ahead c.args.numbers.now) place_count

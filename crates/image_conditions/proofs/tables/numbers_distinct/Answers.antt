@@ -1,24 +1,9 @@
--- `numbers_distinct` meets its contract. The loop's invariant: the tests so far. Assumes nothing.
-use mathlib.Core.Path.{◌≡◌, sym, ap, ◌∙◌}
-use mathlib.Core.Bool.{not}
-use native.Mathlib.Omega.{arith}
-use Rattle.image_records.specs.Shapes.{every, distinct}
+-- The test of two says whether they differ. Assumes nothing.
+use Rattle.std.proofs.Common.{rules, tests}
 use Rattle.image_conditions.specs.Conditions.{numbers_distinct, same_number}
-use Rattle.image_records.proofs.Shapes.{every-none, every-next}
-use borrow.Author.Rules.{rules}
 use Rattle.image_conditions.proofs.tables.numbers_distinct.Goals as goal
 
-pub loop-i-init : goal.loop-i-init
-loop-i-init c = (search rules, sym (every-none (λ i. every (λ j. not (same_number c.args.numbers.now i j)) i)))
-
-pub loop-i-preserved : goal.loop-i-preserved
-loop-i-preserved c =
-    let at-args = c.args in
-    (search rules, c.both-ok.ensures ∙ every-next (λ i. every (λ j. not (same_number at-args.numbers.now i j)) i) c.loop-i.i c.new_number.result c.loop-i.ok c.new_number.ensures c.loop-i.invariant.1)
-
 pub returns : goal.returns
-unfolding numbers_distinct distinct
+unfolding numbers_distinct
 returns c =
-    let at-args = c.args in
-    let e : c.loop-i.i ≡ 16 = omega arith in
-    c.loop-i.invariant.1 ∙ ap (every (λ i. every (λ j. not (same_number at-args.numbers.now i j)) i)) (e)
+    c.distinct.ensures (same_number c.args.numbers.now) (λ i j r below less told. search (rules, tests))

@@ -11,7 +11,7 @@ use Rattle.image_conditions.proofs.tables.signers_at.Goals as goal
 pub returns : goal.returns
 unfolding signers_at
 returns c =
-    let low = c.place_at-p.result.signers % 256 in (
-      c.count.ensures ∙ count-low-byte c.place_at-p.result.signers ∙ ap (λ (r : PlaceRecord). signer_count r.signers) c.place_at-p.ensures,
-      omega (arith, c.count.ensures, count_most low),
+    let low = c.place_at.result.signers % 256 in (
+      c.from.ensures ∙ c.count.ensures ∙ count-low-byte c.place_at.result.signers ∙ ap (λ (r : PlaceRecord). signer_count r.signers) c.place_at.ensures,
+      omega (arith, c.from.ensures, c.count.ensures, count_most low),
     )

@@ -1,5 +1,4 @@
 -- `put_event` meets its contract: the parts are the event's numbers. Assumes nothing.
-use borrow.Author.Rules.{rules}
 use Rattle.image_numbers.proofs.events.put_event.Goals as goal
 
 pub returns : goal.returns

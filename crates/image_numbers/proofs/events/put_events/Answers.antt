@@ -1,5 +1,4 @@
 -- `put_events` meets its contract. The loop's invariant: the first i records are written. Assumes nothing.
-use Prim.Native.Nat.{◌-◌, ◌≤◌}
 use mathlib.Core.List.{List}
 use mathlib.Core.Path.{◌≡◌, refl, sym, ap, ◌∙◌}
 use native.Mathlib.Omega.{arith}
@@ -18,15 +17,14 @@ use Rattle.image_numbers.proofs.events.put_events.Goals as goal
 
 pub loop-i-init : goal.loop-i-init
 unfolding numbers_of
-loop-i-init c = (search rules, refl, sym (overwrite-nil _ journal_at))
+loop-i-init c = (refl, sym (overwrite-nil _ journal_at))
 
 pub loop-i-preserved : goal.loop-i-preserved
 loop-i-preserved c =
     let a = c.args in
     let long : length a.row ≡ record_count = c.well_formed.0.1.0.1 in (
       search rules,
-      search rules,
-      put_next a.numbers.now a.row c.loop-i.i c.loop-i.numbers _ c.requires long (omega arith) c.loop-i.invariant.2 c.put_event.ensures,
+      put_next a.numbers.now a.row c.loop-i.i c.loop-i.numbers _ c.requires long (omega arith) c.loop-i.invariant.1 c.put_event.ensures,
     )
 
 pub returns : goal.returns
@@ -34,4 +32,4 @@ returns c =
     let a = c.args in
     let long : length a.row ≡ record_count = c.well_formed.0.1.0.1 in
     let e : take c.loop-i.i a.row ≡ a.row = take_all c.loop-i.i a.row (omega arith) in
-    c.loop-i.invariant.2 ∙ ap (λ (t : List Event). overwrite a.numbers.now journal_at (numbers_of event_numbers t)) e
+    c.loop-i.invariant.1 ∙ ap (λ (t : List Event). overwrite a.numbers.now journal_at (numbers_of event_numbers t)) e

@@ -1,20 +1,12 @@
 -- `row_from` meets its contract. The loop's invariant: the first i records are read. Assumes nothing.
-use Prim.Native.Nat.{◌-◌, ◌≤◌}
-use mathlib.Core.Path.{◌≡◌, refl, sym, ◌∙◌}
-use native.Mathlib.Omega.{arith}
-use lib.ListN.{length, take, drop, length-set}
-use lib.Seq.{take_all}
+use mathlib.Core.Path.{◌≡◌}
+use lib.ListN.{length, take, drop}
 use Rattle.journal.specs.Events.{record_count}
 use Rattle.bank_rows.specs.Rows.{rows_of}
 use Rattle.image_records.specs.Layout.{journal_at, event_width}
-use Rattle.image_numbers.specs.Numbers.{event_of, row_from}
-use Rattle.image_numbers.proofs.Journal.{row_next}
-use borrow.Author.Rules.{rules}
+use Rattle.image_numbers.specs.Numbers.{event_of}
 use Rattle.image_numbers.proofs.events.row_from.Given as goal
 
 abbrev pub invariant-loop-i : goal.invariant-loop-i
-invariant-loop-i l = (l.i ≤ record_count) × (length l.row ≡ record_count)
+invariant-loop-i l = (length l.row ≡ record_count)
     × (take l.i l.row ≡ rows_of event_width event_of l.i (drop journal_at l.numbers))
-
-abbrev pub decreases-loop-i : goal.decreases-loop-i
-decreases-loop-i l = record_count - l.i

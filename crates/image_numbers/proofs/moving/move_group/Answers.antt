@@ -1,14 +1,9 @@
 -- `move_group` meets its contract. The loop's invariant: the records left are what the answer lacks. Assumes nothing.
-use Prim.Native.Nat.{◌-◌}
 use mathlib.Core.Path.{refl}
 use native.Mathlib.Nat.{sub-zero}
 use native.Mathlib.Omega.{arith}
-use lib.ListN.{length}
-use Rattle.octets.specs.Bytes.{overwrite}
-use Rattle.image_numbers.specs.Table.{records_from, group_places}
-use Rattle.image_numbers.specs.Numbers.{numbers_at}
-use Rattle.image_numbers.proofs.Loops.{Moving, length-record, record-there, record-free, record-moved, records-moved}
-use borrow.Author.Rules.{rules}
+use Rattle.image_numbers.specs.Table.{group_places}
+use Rattle.image_numbers.proofs.Loops.{length-record, record-there, record-free, record-moved, records-moved}
 use Rattle.image_numbers.proofs.moving.move_group.Goals as goal
 
 pub loop-i-init : goal.loop-i-init

@@ -1,13 +1,7 @@
 -- `move_groups` meets its contract. The loop's invariant: the groups left are what the answer lacks. Assumes nothing.
-use Prim.Native.Nat.{◌-◌}
 use mathlib.Core.Path.{refl}
 use native.Mathlib.Omega.{arith}
-use lib.ListN.{length}
-use Rattle.octets.specs.Bytes.{overwrite}
-use Rattle.image_numbers.specs.Table.{groups_from}
-use Rattle.image_numbers.specs.Numbers.{numbers_at}
-use Rattle.image_numbers.proofs.Loops.{Moving, length-group, group-there, group-free, group-moved, groups-moved}
-use borrow.Author.Rules.{rules}
+use Rattle.image_numbers.proofs.Loops.{length-group, group-there, group-free, group-moved, groups-moved}
 use Rattle.image_numbers.proofs.moving.move_groups.Goals as goal
 
 pub loop-i-init : goal.loop-i-init

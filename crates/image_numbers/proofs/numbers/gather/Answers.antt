@@ -3,7 +3,6 @@ use native.Mathlib.Omega.{arith}
 use Rattle.image_numbers.specs.Table.{session_places}
 use Rattle.image_numbers.proofs.Places.{length-session, session-within}
 use Rattle.image_numbers.proofs.Journal.{gathered}
-use borrow.Author.Rules.{rules}
 use Rattle.image_numbers.proofs.numbers.gather.Goals as goal
 
 pub move_groups-requires : goal.move_groups-requires

@@ -2,7 +2,6 @@
 use mathlib.Core.Path.{ap, ◌∙◌}
 use Rattle.octets.specs.Bytes.{overwrite}
 use Rattle.image_numbers.proofs.Counts.{counts-there}
-use borrow.Author.Rules.{rules}
 use Rattle.image_numbers.proofs.numbers.put_counts.Goals as goal
 
 pub returns : goal.returns

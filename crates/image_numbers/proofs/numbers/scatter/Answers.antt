@@ -3,7 +3,6 @@ use native.Mathlib.Omega.{arith}
 use Rattle.image_numbers.specs.Table.{image_places}
 use Rattle.image_numbers.proofs.Journal.{scattered}
 use Rattle.image_numbers.proofs.Places.{length-image, image-inside}
-use borrow.Author.Rules.{rules}
 use Rattle.image_numbers.proofs.numbers.scatter.Goals as goal
 
 pub move_groups-requires : goal.move_groups-requires

@@ -1,5 +1,5 @@
--- The first i records are those that the row is to hold, and the others as they were (`mixed`), which `Entering` keeps from
--- place to place. Assumes nothing.
+-- The records move up, and then the first i records are those that the row is to hold, and the others as they were
+-- (`mixed`), which `Entering` keeps from place to place. Assumes nothing.
 use Prim.Native.Nat.{ℕ, ◌+◌, ◌-◌, ◌<◌, ◌≤◌, ◌^◌}
 use mathlib.Core.Path.{◌≡◌, sym, ap, ◌∙◌}
 use mathlib.Core.List.{List}
@@ -17,8 +17,8 @@ use Rattle.journal.specs.declared.places.Places.{Places}
 use Rattle.journal.specs.Events.{record_count, max_entries, no_event, event_at}
 use Rattle.journal.specs.Row.{row_after}
 use Rattle.journal.specs.Places.{places_of}
-use Rattle.journal.proofs.Mixed.{mixed, mixed-after, mixed-next}
-use Rattle.journal.proofs.Entering.{Entering, entering}
+use Rattle.journal.proofs.Mixed.{mixed, mixed-next}
+use Rattle.journal.proofs.Entering.{Entering, entering, moves-within, moved-up}
 use Rattle.journal.proofs.row.enter.Goals as goal
 
 -- a batch has nine entries
@@ -34,10 +34,7 @@ module _ (n clock : ℕ) (b : Batch) (xs : List Event) (p : Places) (nine : leng
   rightly : Entering n clock b p xs zs
   rightly = rw e (entering n clock b xs nine)
 
-  -- a place that is given a record, and one that is given an event, is one of the row
-  moves : (i : ℕ) → p.first ≤ i → i < p.start → (length xs ≡ record_count) × (i + p.by < record_count)
-  moves i h l = rightly.moves i h l
-
+  -- a place that is given an event is one of the row
   takes : (i : ℕ) → p.start ≤ i → i < p.end → (length xs ≡ record_count) × (i < record_count)
   takes i h l = let t = rightly.takes i h l in (t.0, t.1)
 
@@ -53,14 +50,6 @@ module _ (n clock : ℕ) (b : Batch) (xs : List Event) (p : Places) (nine : leng
       ∙ mixed-next i zs xs no_event rightly.same
       ∙ ap (λ (k : ℕ). mixed k zs xs) (sym (add-one i))
 
-  moved : (i : ℕ) (row : List Event) → p.first ≤ i → i < p.start → row ≡ mixed i zs xs
-      → set row i (get_or row (i + p.by) no_event) ≡ mixed (i + 1) zs xs
-  moved i row h l r =
-      next i row (get_or row (i + p.by) no_event) r
-      (ap (λ (k : List Event). get_or k (i + p.by) no_event) r
-      ∙ mixed-after i (i + p.by) zs xs no_event rightly.same (omega arith)
-      ∙ rightly.moved i h l)
-
   taken : (i : ℕ) (row : List Event) (v : Event) → p.start ≤ i → i < p.end → row ≡ mixed i zs xs
       → v ≡ event_at n clock b (i - p.start)
       → set row i v ≡ mixed (i + 1) zs xs
@@ -69,24 +58,26 @@ module _ (n clock : ℕ) (b : Batch) (xs : List Event) (p : Places) (nine : leng
   ended : (i : ℕ) (row : List Event) → i ≡ p.end → row ≡ mixed i zs xs → row ≡ zs
   ended i row h r = r ∙ ap (λ (k : ℕ). mixed k zs xs) h ∙ rightly.ends
 
+pub move_up-requires : goal.move_up-requires
+move_up-requires c =
+    let a = c.args in
+    let p = c.places_of-places.result in
+    let k = nine_entries a.batch _ c.well_formed.1.1.1.0 in
+    moves-within (rightly a.events a.clock a.batch a.row.now p k c.places_of-places.ensures)
+
 pub loop-i-init : goal.loop-i-init
 loop-i-init c =
     let a = c.args in
     let p = c.places_of-places.result in
     let k = nine_entries a.batch _ c.well_formed.1.1.1.0 in
-    let right = rightly a.events a.clock a.batch a.row.now p k c.places_of-places.ensures in
-    (omega arith, right.in_order.0, sym right.begins)
+    c.move_up.ensures ∙ moved-up (rightly a.events a.clock a.batch a.row.now p k c.places_of-places.ensures)
 
-pub overflow_add-row : goal.overflow_add-row
-overflow_add-row c =
+pub event_at-requires : goal.event_at-requires
+event_at-requires c =
     let a = c.args in
     let p = c.places_of-places.result in
     let k = nine_entries a.batch _ c.well_formed.1.1.1.0 in
-    record {
-      fits =
-          omega
-          (arith, moves a.events a.clock a.batch a.row.now p k c.places_of-places.ensures c.loop-i.i c.loop-i.invariant.0 c.loop-i-test.true);
-    }
+    asks a.events a.clock a.batch a.row.now p k c.places_of-places.ensures c.loop-i.i (omega arith) (omega arith)
 
 pub offset_bounds-row-i : goal.offset_bounds-row-i
 offset_bounds-row-i c =
@@ -94,27 +85,7 @@ offset_bounds-row-i c =
     let p = c.places_of-places.result in
     let k = nine_entries a.batch _ c.well_formed.1.1.1.0 in
     record {
-      fits =
-          omega
-          (arith, moves a.events a.clock a.batch a.row.now p k c.places_of-places.ensures c.loop-i.i c.loop-i.invariant.0 c.loop-i-test.true);
-    }
-
-pub slice_copy_out-row : goal.slice_copy_out-row
-slice_copy_out-row c =
-    let a = c.args in
-    let p = c.places_of-places.result in
-    let k = nine_entries a.batch _ c.well_formed.1.1.1.0 in
-    omega (arith, moves a.events a.clock a.batch a.row.now p k c.places_of-places.ensures c.loop-i.i c.loop-i.invariant.0 c.loop-i-test.true)
-
-pub offset_bounds-row-i-in-loop-i : goal.offset_bounds-row-i-in-loop-i
-offset_bounds-row-i-in-loop-i c =
-    let a = c.args in
-    let p = c.places_of-places.result in
-    let k = nine_entries a.batch _ c.well_formed.1.1.1.0 in
-    record {
-      fits =
-          omega
-          (arith, moves a.events a.clock a.batch a.row.now p k c.places_of-places.ensures c.loop-i.i c.loop-i.invariant.0 c.loop-i-test.true);
+      fits = omega (arith, takes a.events a.clock a.batch a.row.now p k c.places_of-places.ensures c.loop-i.i (omega arith) (omega arith));
     }
 
 pub bounds-row-i : goal.bounds-row-i
@@ -122,68 +93,21 @@ bounds-row-i c =
     let a = c.args in
     let p = c.places_of-places.result in
     let k = nine_entries a.batch _ c.well_formed.1.1.1.0 in
-    omega (arith, moves a.events a.clock a.batch a.row.now p k c.places_of-places.ensures c.loop-i.i c.loop-i.invariant.0 c.loop-i-test.true)
+    omega (arith, takes a.events a.clock a.batch a.row.now p k c.places_of-places.ensures c.loop-i.i (omega arith) (omega arith))
 
 pub loop-i-preserved : goal.loop-i-preserved
 loop-i-preserved c =
     let a = c.args in
     let p = c.places_of-places.result in
+    let k = nine_entries a.batch _ c.well_formed.1.1.1.0 in
     let l = c.loop-i in
-    let k = nine_entries a.batch _ c.well_formed.1.1.1.0 in (
-      omega arith,
-      omega arith,
-      moved a.events a.clock a.batch a.row.now p k c.places_of-places.ensures l.i l.row l.invariant.0 c.loop-i-test.true l.invariant.2,
-    )
-
-pub loop-i-2-init : goal.loop-i-2-init
-loop-i-2-init c =
-    let a = c.args in
-    let p = c.places_of-places.result in
-    let k = nine_entries a.batch _ c.well_formed.1.1.1.0 in
-    let right = rightly a.events a.clock a.batch a.row.now p k c.places_of-places.ensures in
-    (omega arith, omega (arith, right.in_order), c.loop-i.invariant.2)
-
-pub event_at-requires : goal.event_at-requires
-event_at-requires c =
-    let a = c.args in
-    let p = c.places_of-places.result in
-    let l = c.loop-i-2 in
-    let k = nine_entries a.batch _ c.well_formed.1.1.1.0 in
-    asks a.events a.clock a.batch a.row.now p k c.places_of-places.ensures l.i l.invariant.0 c.loop-i-2-test.true
-
-pub offset_bounds-row-i-in-loop-i-2 : goal.offset_bounds-row-i-in-loop-i-2
-offset_bounds-row-i-in-loop-i-2 c =
-    let a = c.args in
-    let p = c.places_of-places.result in
-    let k = nine_entries a.batch _ c.well_formed.1.1.1.0 in
-    record {
-      fits =
-          omega
-          (arith, takes a.events a.clock a.batch a.row.now p k c.places_of-places.ensures c.loop-i-2.i c.loop-i-2.invariant.0 c.loop-i-2-test.true);
-    }
-
-pub bounds-row-i-in-loop-i-2 : goal.bounds-row-i-in-loop-i-2
-bounds-row-i-in-loop-i-2 c =
-    let a = c.args in
-    let p = c.places_of-places.result in
-    let k = nine_entries a.batch _ c.well_formed.1.1.1.0 in
-    omega (arith, takes a.events a.clock a.batch a.row.now p k c.places_of-places.ensures c.loop-i-2.i c.loop-i-2.invariant.0 c.loop-i-2-test.true)
-
-pub loop-i-2-preserved : goal.loop-i-2-preserved
-loop-i-2-preserved c =
-    let a = c.args in
-    let p = c.places_of-places.result in
-    let l = c.loop-i-2 in
-    let k = nine_entries a.batch _ c.well_formed.1.1.1.0 in (
-      omega arith,
-      omega arith,
-      taken a.events a.clock a.batch a.row.now p k c.places_of-places.ensures l.i l.row c.event_at.result l.invariant.0 c.loop-i-2-test.true l.invariant.2 c.event_at.ensures,
-    )
+    taken a.events a.clock a.batch a.row.now p k c.places_of-places.ensures l.i l.row c.event_at.result (omega arith) (omega arith) l.invariant c.event_at.ensures
 
 pub returns : goal.returns
 returns c =
     let a = c.args in
     let p = c.places_of-places.result in
-    let l = c.loop-i-2 in
     let k = nine_entries a.batch _ c.well_formed.1.1.1.0 in
-    ended a.events a.clock a.batch a.row.now p k c.places_of-places.ensures l.i l.row (omega arith) l.invariant.2
+    let l = c.loop-i in
+    let right = rightly a.events a.clock a.batch a.row.now p k c.places_of-places.ensures in
+    ended a.events a.clock a.batch a.row.now p k c.places_of-places.ensures l.i l.row (omega (arith, right.in_order)) l.invariant

@@ -8,7 +8,6 @@ use mir.Syntax.{w64}
 use mir.Val.{to_z}
 use Rattle.marker_column.specs.Offset.{offset_of}
 use Rattle.marker_column.proofs.Offsets.{offset-fits}
-use borrow.Author.Rules.{rules}
 use Rattle.marker_column.proofs.offset.offset.Goals as goal
 
 pub overflow_sub-result : goal.overflow_sub-result

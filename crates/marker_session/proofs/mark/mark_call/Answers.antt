@@ -9,7 +9,7 @@ use Rattle.bank_sound.proofs.Test.{sound-laid}
 use Rattle.octets.specs.Bytes.{Bytes}
 use Rattle.octets.proofs.Numbers.{bytes_take, bytes_drop}
 use Rattle.marker_session.specs.Lines.{head_bytes, size_of, frame_in}
-use Rattle.bank_steps.specs.Lent.{lent}
+use Rattle.marker_session.specs.Memory.{lent_of}
 use Rattle.bank.proofs.RequestBounds.{read-bounded}
 use Rattle.marker_column.proofs.Offsets.{read-timed}
 use Rattle.marker_session.proofs.Calls.{readied}
@@ -85,7 +85,7 @@ returns c =
     let a = c.args in
     let ready = readied _ _ c.requires.0 in
     let said = c.read_whole_request-p.ensures.0 in
-    let done = marked-call a.input.now (lent a.rows.now a.orders.now a.mailboxes.now) a.buffer.now
+    let done = marked-call a.input.now (lent_of a.memory.now) a.memory.now.buffer
     a.output.now a.m _ c.behind-rest.ensures _ c.time_of.ensures _ c.frame_in-frame.ensures
     _ c.size_of.ensures _ (c.answer_request-step.ensures _ said c.data_at-bytes.ensures).0
     c.requires.2 _ c.clock.ensures _ said _ _ c.put_line-written.ensures in (

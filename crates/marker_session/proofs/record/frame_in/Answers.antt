@@ -17,4 +17,4 @@ pub returns : goal.returns
 unfolding frame_in width
 returns c =
     let s = c.args.s.now in
-    rw (← c.size_of-size.ensures, ← take_rest s head_bytes) c.front.ensures
+    rw (← c.size_of.ensures, ← take_rest s head_bytes) c.front.ensures

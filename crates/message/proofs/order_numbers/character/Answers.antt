@@ -16,5 +16,5 @@ all-characters : (d : ℕ) → d < 36 → 48 + d + 7 * ((d + 26) / 36) ≡ chara
 unfolding same character
 all-characters d h = eqb-true _ _ (every-below same 36 refl d h)
 
-pub returns : goal.returns
-returns c = all-characters _ c.requires
+pub returns-clause-value : goal.returns-clause-value
+returns-clause-value c = all-characters _ c.requires

@@ -2,7 +2,6 @@
 use native.Mathlib.Omega.{arith}
 use Rattle.print.specs.Book.{book_of, book_room}
 use Rattle.print.proofs.Texts.{put-length, put_then, printed-put, printed-none}
-use borrow.Author.Rules.{rules}
 use Rattle.print.proofs.book.book.Goals as goal
 
 pub returns-then-output-lt-BOOK_ROOM : goal.returns-then-output-lt-BOOK_ROOM

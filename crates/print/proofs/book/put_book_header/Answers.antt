@@ -1,6 +1,5 @@
 -- The names, then the byte after them. Assumes nothing.
 use Rattle.print.proofs.Texts.{put_then}
-use borrow.Author.Rules.{rules}
 use Rattle.print.proofs.book.put_book_header.Goals as goal
 
 pub returns : goal.returns

@@ -6,7 +6,6 @@ use Rattle.print.specs.Text.{order_characters, type_room, column_room}
 use Rattle.print.specs.Book.{order_columns, signer_columns_room}
 use Rattle.print.proofs.Digits.{order-number-most, type-column-most, column-most}
 use Rattle.print.proofs.Texts.{put_then, put-left}
-use borrow.Author.Rules.{rules}
 use Rattle.print.proofs.book.put_order_columns.Goals as goal
 
 -- the room of the columns from the type on, and from the bytes on

@@ -1,12 +1,6 @@
 -- The loop keeps that the lines of the first i places are written. Assumes nothing.
-use Prim.Native.Nat.{◌-◌}
 use native.Mathlib.Omega.{arith}
-use borrow.Author.Rules.{rules}
-use Rattle.bank_state.specs.Limits.{place_count}
-use Rattle.bank_rows.specs.State.{bank_of}
-use Rattle.print.specs.Book.{line_at, order_columns_room}
-use Rattle.print.proofs.Texts.{put-length}
-use Rattle.print.proofs.Rows.{Rows, rows_start, rows_left, rows_next, rows_end}
+use Rattle.print.proofs.Rows.{rows_start, rows_left, rows_next, rows_end}
 use Rattle.print.proofs.Lengths.{order-most}
 use Rattle.print.proofs.book.put_orders.Goals as goal
 
@@ -19,9 +13,6 @@ put_order-end-requires c = rows_left _ _ _ _ _ c.loop-i.invariant (omega arith)
 pub loop-i-preserved : goal.loop-i-preserved
 loop-i-preserved c =
     rows_next _ _ _ _ _ c.loop-i.invariant (omega arith) (order-most _) (rw (← c.place_at.ensures) c.put_order-end.ensures)
-
-pub shape_of-output : goal.shape_of-output
-shape_of-output c = put-length c.loop-i.invariant.put
 
 pub returns : goal.returns
 returns c = rows_end _ _ _ _ _ c.loop-i.invariant (omega arith)

@@ -12,7 +12,6 @@ use Rattle.print.specs.Book.{released_room, signer_columns}
 use Rattle.print.proofs.Digits.{column-most}
 use Rattle.print.proofs.Lengths.{released-most}
 use Rattle.print.proofs.Texts.{put_then, put-left}
-use borrow.Author.Rules.{rules}
 use Rattle.print.proofs.book.put_signers.Goals as goal
 
 released-low-byte : (set : ℕ) → is_released (set % 256) ≡ is_released set

@@ -1,6 +1,5 @@
 -- `put_closing` meets its contract. Assumes nothing.
 use Rattle.print.proofs.Texts.{put_then}
-use borrow.Author.Rules.{rules}
 use Rattle.print.proofs.closing.put_closing.Goals as goal
 
 pub returns-in-Lodged : goal.returns-in-Lodged

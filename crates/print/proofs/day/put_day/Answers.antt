@@ -5,7 +5,6 @@ use lib.ListN.{length}
 use Rattle.print.specs.Day.{last_digits, day_text}
 use Rattle.print.proofs.Digits.{length-digits_in}
 use Rattle.print.proofs.Texts.{put_then, put-left}
-use borrow.Author.Rules.{rules}
 use Rattle.print.proofs.day.put_day.Goals as goal
 
 digits-most : (w x : ℕ) → length (last_digits w x) ≤ w

@@ -6,7 +6,6 @@ use Rattle.print.specs.Text.{order_characters, type_room, column_room}
 use Rattle.print.specs.Name.{order_name_text}
 use Rattle.print.proofs.Digits.{type-column-most, column-most}
 use Rattle.print.proofs.Texts.{put_then, put-left}
-use borrow.Author.Rules.{rules}
 use Rattle.print.proofs.name.put_order_name.Goals as goal
 
 pub put_type-b-requires : goal.put_type-b-requires

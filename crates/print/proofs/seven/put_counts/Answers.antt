@@ -6,7 +6,6 @@ use Rattle.print.specs.Text.{max_digits, column_room}
 use Rattle.print.specs.Seven.{counts_text}
 use Rattle.print.proofs.Digits.{column-most}
 use Rattle.print.proofs.Texts.{put_then, put-left}
-use borrow.Author.Rules.{rules}
 use Rattle.print.proofs.seven.put_counts.Goals as goal
 
 pub put_column-b-requires : goal.put_column-b-requires

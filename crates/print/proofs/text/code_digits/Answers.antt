@@ -1,6 +1,5 @@
 -- `code_digits` meets its contract. Assumes nothing.
 use mathlib.Core.Path.{sym, ◌∙◌}
-use borrow.Author.Rules.{rules}
 use Rattle.octets.proofs.Numbers.{overwrite-all}
 use Rattle.print.specs.Text.{code_digits}
 use Rattle.print.proofs.Digits.{length-digits_in}

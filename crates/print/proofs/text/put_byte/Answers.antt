@@ -1,6 +1,5 @@
 -- `put_byte` meets its contract. Assumes nothing.
 use Rattle.print.proofs.Texts.{put_one}
-use borrow.Author.Rules.{rules}
 use Rattle.print.proofs.text.put_byte.Goals as goal
 
 pub returns : goal.returns

@@ -3,7 +3,6 @@ use native.Mathlib.Omega.{arith}
 use Rattle.print.specs.Text.{column}
 use Rattle.print.proofs.Digits.{decimal-most}
 use Rattle.print.proofs.Texts.{put_then, put-left}
-use borrow.Author.Rules.{rules}
 use Rattle.print.proofs.text.put_column.Goals as goal
 
 pub put_byte-requires : goal.put_byte-requires

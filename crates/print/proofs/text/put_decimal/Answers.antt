@@ -2,7 +2,6 @@
 use native.Mathlib.Omega.{arith}
 use Rattle.print.specs.Text.{decimal}
 use Rattle.print.proofs.Digits.{digit_count-most}
-use borrow.Author.Rules.{rules}
 use Rattle.print.proofs.text.put_decimal.Goals as goal
 
 pub put_digits-requires : goal.put_digits-requires

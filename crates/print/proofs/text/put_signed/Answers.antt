@@ -6,7 +6,6 @@ use mir.Val.{to_z, of_z}
 use Rattle.print.specs.Text.{max_digits}
 use Rattle.print.proofs.Signed.{sign-most, put_both}
 use Rattle.print.proofs.Texts.{put-left}
-use borrow.Author.Rules.{rules}
 use Rattle.print.proofs.text.put_signed.Goals as goal
 
 pub put_decimal-requires : goal.put_decimal-requires
@@ -16,4 +15,4 @@ put_decimal-requires c =
 pub returns : goal.returns
 returns c =
     let read = to_z-of_z c.ranges.x in
-    put_both read read c.magnitude.ensures c.put_sign-a.ensures c.put_decimal.ensures
+    put_both read read c.unsigned_abs.ensures.value c.put_sign-a.ensures c.put_decimal.ensures

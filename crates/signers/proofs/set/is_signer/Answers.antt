@@ -1,7 +1,6 @@
 -- The bit of a subscriber is looked at where it has one. Assumes nothing.
 use mathlib.Core.Path.{sym, ◌∙◌}
 use native.Mathlib.Omega.{arith}
-use Rattle.signers.specs.Signers.{is_signer}
 use Rattle.signers.proofs.Laws.{bit_in}
 use Rattle.signers.proofs.set.is_signer.Goals as goal
 
@@ -13,11 +12,3 @@ overflow_cast-result c = record { fits = omega (arith, bit_in _ (sym c.has_bit.e
 
 pub overflow_shr-result : goal.overflow_shr-result
 overflow_shr-result c = omega (arith, bit_in _ (sym c.has_bit.ensures ∙ c.if-has_bit.true))
-
-pub returns-then-has_bit : goal.returns-then-has_bit
-unfolding is_signer
-returns-then-has_bit c = sym (rw (sym c.has_bit.ensures ∙ c.if-has_bit.true))
-
-pub returns : goal.returns
-unfolding is_signer
-returns c = sym (rw (sym c.has_bit.ensures ∙ c.if-has_bit.false))

@@ -1,19 +1,17 @@
--- `event_call` meets its contract. Assumes nothing.
-use borrow.Author.Rules.{rules}
+-- The client's call on the parts of the record. Assumes nothing.
 use Rattle.unit.proofs.call.event_call.Goals as goal
 
 pub returns-in-Upload : goal.returns-in-Upload
 returns-in-Upload c =
-    rw c.in-Upload.is c.begin.ensures
+    rw (c.in-Upload.is, ← c.params_of-params.ensures, ← c.number_at-time.ensures) c.begin.ensures
 
 pub returns-in-Download : goal.returns-in-Download
 returns-in-Download c =
-    rw c.in-Download.is c.begin-in-Download.ensures
+    rw (c.in-Download.is, ← c.params_of-params-in-Download.ensures, ← c.number_at-time.ensures) c.begin-in-Download.ensures
 
 pub returns-in-Reply : goal.returns-in-Reply
 returns-in-Reply c =
-    let told = c.in-Reply.is in
-    rw (told, ← rw told at c.body_of-body.ensures, ← c.number_at-time.ensures) c.reply.ensures
+    rw (c.in-Reply.is, ← c.body_of-body.ensures, ← c.number_at-time.ensures) c.reply.ensures
 
 pub returns-in-NoReply : goal.returns-in-NoReply
 returns-in-NoReply c =

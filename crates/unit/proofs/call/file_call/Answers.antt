@@ -1,6 +1,5 @@
 -- The bank's call on the parts of the record, and what its answer says. Assumes nothing.
 use Rattle.unit.specs.Call.{file_step}
-use borrow.Author.Rules.{rules}
 use Rattle.unit.proofs.call.file_call.Goals as goal
 
 pub returns : goal.returns

@@ -3,7 +3,6 @@
 use Rattle.unit_rows.specs.Rows.{journal_from}
 use Rattle.unit_rows.proofs.Rows.{length-journal}
 use Rattle.unit.specs.Call.{frame_step}
-use borrow.Author.Rules.{rules}
 use Rattle.unit.proofs.call.frame_call.Goals as goal
 
 pub returns : goal.returns

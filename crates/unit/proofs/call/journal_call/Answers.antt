@@ -8,7 +8,6 @@ use Rattle.unit_state.specs.State.{run_at}
 use Rattle.unit_rows.specs.Rows.{runs_from, unit_from}
 use Rattle.unit.specs.Call.{with_client}
 use Rattle.unit.proofs.Steps.{handed}
-use borrow.Author.Rules.{rules}
 use Rattle.unit.proofs.call.journal_call.Goals as goal
 
 pub returns : goal.returns

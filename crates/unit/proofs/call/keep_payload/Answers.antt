@@ -1,7 +1,6 @@
 -- `keep_payload` meets its contract. Assumes nothing.
 use native.Mathlib.Omega.{arith}
 use Rattle.bank_state.specs.Store.{with_part}
-use borrow.Author.Rules.{rules}
 use Rattle.unit.proofs.call.keep_payload.Goals as goal
 
 pub append-requires : goal.append-requires

@@ -4,7 +4,6 @@ use mathlib.Core.Path.{◌≡◌, ap, ◌∙◌}
 use lib.ListN.{length, length-take, length-drop}
 use Rattle.octets.proofs.Numbers.{overwrite-all}
 use Rattle.client_run.specs.Run.{nonce_bytes}
-use borrow.Author.Rules.{rules}
 use Rattle.unit.proofs.call.nonce_of.Goals as goal
 
 pub copy-requires : goal.copy-requires

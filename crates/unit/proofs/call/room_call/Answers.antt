@@ -5,7 +5,6 @@ use lib.ListN.{length}
 use Rattle.message.specs.Limits.{file_bytes}
 use Rattle.bank_state.proofs.Stores.{part-lent}
 use Rattle.unit.proofs.Steps.{part-kept, roomed}
-use borrow.Author.Rules.{rules}
 use Rattle.unit.proofs.call.room_call.Goals as goal
 
 pub returns : goal.returns

@@ -6,7 +6,6 @@ use Rattle.unit_rows.specs.Rows.{runs_from}
 use Rattle.unit.specs.State.{memory}
 use Rattle.unit.specs.Call.{run_call}
 use Rattle.unit.proofs.Steps.{put_back}
-use borrow.Author.Rules.{rules}
 use Rattle.unit.proofs.call.run_call.Goals as goal
 
 pub returns : goal.returns

@@ -4,7 +4,6 @@ use mathlib.Core.Path.{ap}
 use lib.ListN.{length, length-take}
 use Rattle.unit_state.specs.Records.{body_of}
 use Rattle.unit.specs.Call.{image_step}
-use borrow.Author.Rules.{rules}
 use Rattle.unit.proofs.images.image_call.Goals as goal
 
 pub copy-requires : goal.copy-requires

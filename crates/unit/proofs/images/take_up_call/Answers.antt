@@ -1,6 +1,5 @@
 -- The session is taken up from the front of the room, and its journal is the unit's. Assumes nothing.
 use Rattle.unit.specs.Call.{take_up_step}
-use borrow.Author.Rules.{rules}
 use Rattle.unit.proofs.images.take_up_call.Goals as goal
 
 pub returns : goal.returns

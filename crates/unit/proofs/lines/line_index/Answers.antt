@@ -4,7 +4,6 @@ use mathlib.Core.Path.{ap}
 use Prim.Native.Nat.{ℕ, ◌-◌}
 use Rattle.unit_state.specs.Records.{line_of}
 use Rattle.unit_state.proofs.Parts.{line-within}
-use borrow.Author.Rules.{rules}
 use Rattle.unit.proofs.lines.line_index.Goals as goal
 
 pub overflow_sub-result : goal.overflow_sub-result

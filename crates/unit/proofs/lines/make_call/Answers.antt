@@ -3,7 +3,6 @@ use native.Mathlib.Omega.{arith}
 use Rattle.unit_state.specs.Records.{seed_at, seed_bytes}
 use Rattle.unit_state.proofs.Parts.{number_at-most}
 use Rattle.unit.proofs.LineSteps.{line_made}
-use borrow.Author.Rules.{rules}
 use Rattle.unit.proofs.lines.make_call.Goals as goal
 
 pub overflow_cast-seed : goal.overflow_cast-seed

@@ -3,7 +3,6 @@ use mathlib.Core.Path.{ap, ◌∙◌}
 use native.Mathlib.Omega.{arith}
 use Rattle.unit_rows.specs.Rows.{journal_from}
 use Rattle.unit_rows.proofs.Rows.{record-set}
-use borrow.Author.Rules.{rules}
 use Rattle.unit_rows.proofs.events.set_record.Goals as goal
 
 pub returns : goal.returns

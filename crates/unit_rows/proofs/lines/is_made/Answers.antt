@@ -4,7 +4,6 @@ use mathlib.Core.Bool.{not}
 use mathlib.Core.Path.{sym, ap}
 use lib.Dec.{eqb}
 use Rattle.unit_rows.proofs.LineParts.{value-at}
-use borrow.Author.Rules.{rules}
 use Rattle.unit_rows.proofs.lines.is_made.Goals as goal
 
 pub returns : goal.returns

@@ -4,7 +4,6 @@ use native.Mathlib.Omega.{arith}
 use lib.ListN.{length}
 use Rattle.line.specs.Memory.{row_size}
 use Rattle.unit_rows.proofs.LineParts.{row-lent, row_back, store-lent, made-parts}
-use borrow.Author.Rules.{rules}
 use Rattle.unit_rows.proofs.lines.make_at.Goals as goal
 
 pub returns : goal.returns

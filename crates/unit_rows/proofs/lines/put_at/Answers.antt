@@ -4,7 +4,6 @@ use native.Mathlib.Omega.{arith}
 use lib.ListN.{length}
 use Rattle.line.specs.Memory.{row_size, store_bytes}
 use Rattle.unit_rows.proofs.LineParts.{row-lent, row_back, store-lent, store-back, put-parts}
-use borrow.Author.Rules.{rules}
 use Rattle.unit_rows.proofs.lines.put_at.Goals as goal
 
 pub returns : goal.returns

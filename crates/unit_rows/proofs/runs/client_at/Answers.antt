@@ -1,10 +1,9 @@
 -- Each field is a number of the run's, or what it says. Assumes nothing.
 use mathlib.Core.Path.{sym}
 use Rattle.unit_rows.proofs.Rows.{client-read}
-use borrow.Author.Rules.{rules}
 use Rattle.unit_rows.proofs.runs.client_at.Goals as goal
 
 pub returns : goal.returns
 returns c =
-    rw (c.stage_of-stage.ensures, c.direction_of-direction.ensures, c.step_of-step.ensures, c.edition_of-edition.ensures)
+    rw (c.stage_of.ensures, c.direction_of.ensures, c.step_of.ensures, c.edition_of.ensures)
     (sym (client-read c.args.runs.now c.args.i))

@@ -1,6 +1,5 @@
 -- The numbers of the run are written over its row. Assumes nothing.
 use native.Mathlib.Omega.{arith}
-use borrow.Author.Rules.{rules}
 use Rattle.unit_rows.proofs.runs.put_run.Goals as goal
 
 pub returns : goal.returns

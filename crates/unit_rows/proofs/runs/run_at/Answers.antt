@@ -7,7 +7,6 @@ use Rattle.octets.proofs.Numbers.{overwrite-all}
 use Rattle.client_run.specs.Run.{nonce_bytes}
 use Rattle.unit_rows.specs.Rows.{run_width, run_of}
 use Rattle.unit_rows.proofs.Rows.{run-read, number_at}
-use borrow.Author.Rules.{rules}
 use Rattle.unit_rows.proofs.runs.run_at.Goals as goal
 
 pub copy-requires : goal.copy-requires

@@ -1,10 +1,9 @@
 -- The numbers and the nonce bytes of the run are written over its own. Assumes nothing.
-use mathlib.Core.Path.{◌≡◌, sym, ◌∙◌}
+use mathlib.Core.Path.{◌≡◌}
 use native.Mathlib.Omega.{arith}
-use lib.ListN.{length, length-map}
+use lib.ListN.{length}
 use Rattle.client_run.specs.Run.{nonce_bytes}
 use Rattle.unit_rows.proofs.Rows.{run-set}
-use borrow.Author.Rules.{rules}
 use Rattle.unit_rows.proofs.runs.set_run.Goals as goal
 
 pub copy-requires : goal.copy-requires

@@ -2,17 +2,17 @@
 use Rattle.client.specs.Calls.{begin_call}
 use Rattle.client.proofs.calls.Client.begin.Goals as goal
 
-pub returns-in-Refuse : goal.returns-in-Refuse
+pub returns-in-Err : goal.returns-in-Err
 unfolding begin_call
-returns-in-Refuse c =
-    rw (← c.begin_ruling-ruling.ensures, c.in-Refuse.is, c.refused.ensures)
+returns-in-Err c =
+    rw (← c.lengths-l.ensures, ← c.in-Err.ensures, c.answered.ensures)
 
-pub returns-in-Accept : goal.returns-in-Accept
+pub returns-in-Ok : goal.returns-in-Ok
 unfolding begin_call
-returns-in-Accept c =
+returns-in-Ok c =
     rw (
-      ← c.begin_ruling-ruling.ensures,
-      c.in-Accept.is,
+      ← c.lengths-l.ensures,
+      ← c.in-Ok.ensures,
       ← c.begin_length.ensures,
       ← c.begun-next.ensures,
     ) (c.issue.ensures _)

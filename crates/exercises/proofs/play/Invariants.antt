@@ -1,6 +1,0 @@
--- The measure is the number of moves that are left. Assumes nothing.
-use Prim.Native.Nat.{◌-◌}
-use Rattle.exercises.proofs.play.Given as goal
-
-abbrev pub decreases-loop-i : goal.decreases-loop-i
-decreases-loop-i g l = l.end - l.i

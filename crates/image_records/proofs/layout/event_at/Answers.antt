@@ -1,8 +1,0 @@
--- `event_at` meets its contract: each number is read from its place. Assumes nothing.
-use mathlib.Core.Path.{refl}
-use Rattle.image_records.specs.Layout.{event_at}
-use Rattle.image_records.proofs.layout.event_at.Goals as goal
-
-pub returns : goal.returns
-unfolding event_at
-returns c = refl

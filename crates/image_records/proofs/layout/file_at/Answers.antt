@@ -1,8 +1,0 @@
--- `file_at` meets its contract: each number is read from its place. Assumes nothing.
-use mathlib.Core.Path.{refl}
-use Rattle.image_records.specs.Layout.{file_at}
-use Rattle.image_records.proofs.layout.file_at.Goals as goal
-
-pub returns : goal.returns
-unfolding file_at
-returns c = refl

@@ -1,8 +1,0 @@
--- `place_at` meets its contract: each number is read from its place. Assumes nothing.
-use mathlib.Core.Path.{refl}
-use Rattle.image_records.specs.Layout.{place_at}
-use Rattle.image_records.proofs.layout.place_at.Goals as goal
-
-pub returns : goal.returns
-unfolding place_at
-returns c = refl

@@ -1,5 +1,0 @@
--- The open ones less, and one count more.
-use Rattle.opening_counts.proofs.moves.with_dropped.Goals as goal
-
-pub returns : goal.returns
-returns c = rw c.less.ensures
