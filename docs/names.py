@@ -1,7 +1,7 @@
 #!/usr/bin/env python3
 # Looks up every name in backquotes of README.md and docs/: each must stand in the tree, `a::b` and `A.b` in a file of
 # that name or that declares that type, `crate/edit` among the must-fail edits. Prints what does not; for every landing.
-# CHECK-TIMES.md, PORT.md and DESIGN-PASS.md are left out: they name crates, goals and types as they were.
+# CHECK-TIMES.md, PORT.md, DESIGN-PASS.md and LOOK-BACK.md are left out: they name crates, goals and types as they were.
 import re
 import sys
 from pathlib import Path
@@ -17,7 +17,7 @@ ENDINGS = {"rt", "antt", "edit", "md", "txt", "py"}
 
 def pages():
     yield ROOT / "README.md"
-    yield from (p for p in sorted((ROOT / "docs").glob("*.md")) if p.name not in ("CHECK-TIMES.md", "PORT.md", "DESIGN-PASS.md"))
+    yield from (p for p in sorted((ROOT / "docs").glob("*.md")) if p.name not in ("CHECK-TIMES.md", "PORT.md", "DESIGN-PASS.md", "LOOK-BACK.md"))
 
 
 def written(top):

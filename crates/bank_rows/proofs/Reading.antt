@@ -252,7 +252,7 @@ module _ (s : List ℕ) (value : Bits128) where
   abbrev pub is_nonce : Nonce → Bool
   is_nonce e = e.used && same_bits e.value value
 
-  not-remembered : nonce_count ≡ first_of is_nonce (bank_of s).nonces → false ≡ is_remembered value (bank_of s)
+  pub not-remembered : nonce_count ≡ first_of is_nonce (bank_of s).nonces → false ≡ is_remembered value (bank_of s)
   unfolding is_remembered
   not-remembered e = sym (le-ltb (first_of is_nonce (bank_of s).nonces) nonce_count (omega arith))
 

@@ -1,14 +1,14 @@
 // A request, read, at the clock that the call has set: it is judged once, and its verdict is carried out. Rows, orders
 // and mailboxes are lent one by one, since each function borrows those alone that it may write.
 ghost use Rattle.std.specs.Prelude.{◌≡◌, List, ℕ, ◌<◌, ◌≤◌, length};
-ghost use Rattle.frame_table.specs.Names.{subscriber, form};
+ghost use Rattle.frame_table.specs.Names.{subscriber};
 ghost use Rattle.message.specs.Limits.{subscribers, segment_bytes};
 ghost use Rattle.bank_state.specs.Limits.{place_count, store_bytes};
 ghost use Rattle.bank_state.specs.State.{download_at};
 ghost use Rattle.bank_rows.specs.State.{bank_of, Laid};
 ghost use Rattle.bank_sound.specs.Sound.{InRange};
 ghost use Rattle.bank_verdicts.specs.Judgement.{judge_opening, judge_signing, upload_at, download_of, judge_transaction};
-ghost use Rattle.bank_verdicts.specs.Judgement.{judge_request, judge_form, judge};
+ghost use Rattle.bank_verdicts.specs.Judgement.{judge_request, judge};
 ghost use Rattle.bank_signing.specs.Signings.{SignerSets};
 ghost use Rattle.bank_downloads.specs.Downloads.{download_after};
 ghost use Rattle.bank_steps.specs.Steps.{emptied, on_download, upload_verdict, download_verdict, target_of};
@@ -31,7 +31,7 @@ use bank_verdicts::verdict::{
     Action, Context, DownloadAction, TransactionRequest, Verdict, opened_number,
 };
 use frame_table::fields::Fields;
-use frame_table::table::{Form, RequestForm, is_request_form};
+use frame_table::table::{Form, RequestForm};
 use message::codes::ReturnCode;
 use message::directions::Direction;
 use message::limits::{FILE_BYTES, SEGMENT_BYTES};
@@ -227,26 +227,6 @@ fn by_request(
     }
 }
 
-// A request of a subscriber, where it is readable.
-fn by_form(
-    rows: &mut [u64],
-    context: Context,
-    q: Fields,
-    bytes: &[u8],
-    orders: &mut [u8],
-    mailboxes: &mut [u8],
-) -> Verdict
-    requires { Ready q bytes.now rows.old orders.old mailboxes.old }
-    ensures { CarriedOut (judge_form (form q) context (bank_of rows.old) q)
-        (lent rows.old orders.old mailboxes.old) q bytes.now
-        result (lent rows.new orders.new mailboxes.new) }
-{
-    match q.form() {
-        Form::Request(request) => by_request(request, rows, context, q, bytes, orders, mailboxes),
-        Form::NoForm | Form::Reply(_) => Verdict::Unreadable,
-    }
-}
-
 // A request: judged in document 01's order, a line for each row of `request_rows`, and carried out.
 pub fn step(
     rows: &mut [u64],
@@ -261,14 +241,14 @@ pub fn step(
         (lent rows.old orders.old mailboxes.old) q bytes.now
         result (lent rows.new orders.new mailboxes.new) }
 {
-    if !is_request_form(q.form()) {
+    let Form::Request(request) = q.form() else {
         return Verdict::Unreadable;
-    }
+    };
     if is_no_mailbox(q.subscriber()) {
         return Verdict::Refused(ReturnCode::UserUnknown);
     }
     if SEGMENT_BYTES < bytes.len() {
         return Verdict::Refused(ReturnCode::SegmentSizeExceeded);
     }
-    by_form(rows, context, q, bytes, orders, mailboxes)
+    by_request(request, rows, context, q, bytes, orders, mailboxes)
 }

@@ -10,9 +10,9 @@ use octets::bytes::front;
 // and of the message held longest, which comes out late.
 #[derive(Clone, Copy)]
 pub struct Fates {
-    first: Option<u8>,
-    second: Option<u8>,
-    late: Option<u8>,
+    pub first: Option<u8>,
+    pub second: Option<u8>,
+    pub late: Option<u8>,
 }
 
 impl Fates {

@@ -12,7 +12,7 @@ use unit_state::answer::Answer;
 use unit_state::record::{
     BANK_TIME_AT, EDITION_AT, EDITION_BYTES, EXTENT_AT, EXTENT_BYTES, FIRST_AT, FIRST_BYTES,
     IDS_AT, LETTER_BYTES, MAILBOX_AT, MAILBOX_BYTES, ORDER_AT, ORDER_BYTES, ROOM_BYTES, RUN_BYTES,
-    RUN_NUMBER_AT, SUBSCRIBER_AT, SUBSCRIBER_BYTES, TIME_AT, TIME_BYTES, UPLOAD_HEAD, lent_length,
+    SUBSCRIBER_AT, SUBSCRIBER_BYTES, TIME_AT, TIME_BYTES, UPLOAD_HEAD, lent_length,
 };
 
 // Thursday 28 March 2024, 15:59:26, the last business day before Easter, in milliseconds. Each move comes a second
@@ -113,18 +113,34 @@ fn image_of(mail: &[u8], letter: u8) -> u64 {
     ROOM_BYTES as u64
 }
 
+// Writes the letter with which a move's record begins, and the w bytes of what it names, where both have room.
+fn put_name(record: &mut [u8], m: Move, w: usize, name: u64) {
+    if w < record.len() {
+        put_number(record, 0, LETTER_BYTES, u64::from(letter_of(m.letter)));
+        put_number(record, LETTER_BYTES, w, name);
+    }
+}
+
 // Writes a call to a run but for its body: the letter, the run, and the time of the call.
 fn put_call(record: &mut [u8], m: Move) {
-    put_number(record, RUN_NUMBER_AT, RUN_BYTES, u64::from(m.run));
+    put_name(record, m, RUN_BYTES, u64::from(m.run));
     put_number(record, TIME_AT, TIME_BYTES, time_of(m));
 }
 
-// Writes what a run is told at begin; its first exchange number is its number in hundreds, and the nonce bytes are 0.
+// Writes a subscriber and a first exchange number in their places of a begin, where both have room.
+fn put_order(record: &mut [u8], subscriber: u64, first: u64) {
+    if FIRST_AT + FIRST_BYTES <= record.len() {
+        put_number(record, SUBSCRIBER_AT, SUBSCRIBER_BYTES, subscriber);
+        put_number(record, FIRST_AT, FIRST_BYTES, first);
+    }
+}
+
+// Writes what a run is told at begin; its first exchange number is its number in hundreds. The nonce bytes stay as they
+// are in the record, 0 in a fresh one.
 fn put_begin(record: &mut [u8], m: Move) {
     put_call(record, m);
     let subscriber = u64::from(order_of(m.run).subscriber);
-    put_number(record, SUBSCRIBER_AT, SUBSCRIBER_BYTES, subscriber);
-    put_number(record, FIRST_AT, FIRST_BYTES, u64::from(m.run) * 100);
+    put_order(record, subscriber, u64::from(m.run) * 100);
     if m.letter == b'U' {
         let t = terms_of(m.run);
         put_number(record, EDITION_AT, EDITION_BYTES, t.edition);
@@ -132,20 +148,22 @@ fn put_begin(record: &mut [u8], m: Move) {
     }
 }
 
-// Writes what stands before the body of a move's record, behind its letter, and gives the body's place. The bank's ID
-// bytes are 0. The session is put away into the whole image room, and taken up from this many bytes of it.
+// Writes what stands before the body of a move's record, and gives the body's place. The session is put away into the
+// whole image room, and taken up from this many bytes of it.
 fn put_head(record: &mut [u8], m: Move, image: u64) -> usize {
     match m.letter {
         b'M' => {
             let mailbox = u64::from(order_of(m.run).subscriber);
-            put_number(record, MAILBOX_AT, MAILBOX_BYTES, mailbox);
+            put_name(record, m, MAILBOX_BYTES, mailbox);
             MAILBOX_AT + MAILBOX_BYTES
         }
         b'F' | b'G' => {
+            put_name(record, m, 0, 0);
             put_number(record, BANK_TIME_AT, TIME_BYTES, time_of(m));
             FRAME_AT
         }
         b'P' | b'T' => {
+            put_name(record, m, 0, 0);
             put_number(record, EXTENT_AT, EXTENT_BYTES, image);
             EXTENT_AT + EXTENT_BYTES
         }
@@ -165,13 +183,14 @@ fn letter_of(letter: u8) -> u8 {
     if letter == b'G' { b'F' } else { letter }
 }
 
-// Writes the record of a move, whose body this is. A message that is lost or that a line holds, and the reply to a
-// signing, which no client run waits for, make no call: their record is empty.
+// Writes the record of a move, whose body this is. Where a begin's order would stand, every record with room for it
+// gets zeros first, so that these of the bank's ID bytes are 0. A message that is lost or that a line holds, and the
+// reply to a signing, which no client run waits for, make no call: their record is empty.
 fn put_record(record: &mut [u8], m: Move, image: u64, body: &[u8]) {
     if matches!(m.fate, b'x' | b'r') || m.letter == b'Q' {
         return;
     }
-    put_number(record, 0, LETTER_BYTES, u64::from(letter_of(m.letter)));
+    put_order(record, 0, 0);
     let at = put_head(record, m, image);
     put_body(record, at, body);
 }

@@ -167,7 +167,7 @@ zero-absent s =
     absurd (omega (arith, leb-true 1 (number (content 0 s)) a.0, leb-true (number (content 0 s)) 0 a.1)))
     (size-cases 0 s)
 
-read-start : (s : List ℕ) → Read s 1 no_fields s
+pub read-start : (s : List ℕ) → Read s 1 no_fields s
 unfolding contents behind present_tags each_from with_field
 read-start s =
     let none : Read s 0 no_fields s = record { fields = refl; left = refl } in

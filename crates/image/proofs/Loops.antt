@@ -106,12 +106,12 @@ pub record Fitting (r : List Item) (xs : List ℕ) (k : ℕ) (goal : Bool) : Typ
   pub same : goal ≡ fits r (drop k xs)
 
 module _ {r : List Item} {xs : List ℕ} {k : ℕ} {goal : Bool} (p : Fitting r xs k goal) where
-  fitting-constant : {w v : ℕ} {l : List Item} → constant w v ∷ l ≡ r → Fitting l xs k goal
+  pub fitting-constant : {w v : ℕ} {l : List Item} → constant w v ∷ l ≡ r → Fitting l xs k goal
   unfolding fits parts_in
   fitting-constant e =
       record { room = rw (← e) at p.room; same = p.same ∙ ap (λ (i : List Item). fits i (drop k xs)) (sym e) }
 
-  fitting-store : {z : ℕ} {l : List Item} → store z ∷ l ≡ r → Fitting l xs k goal
+  pub fitting-store : {z : ℕ} {l : List Item} → store z ∷ l ≡ r → Fitting l xs k goal
   unfolding fits parts_in
   fitting-store e =
       record { room = rw (← e) at p.room; same = p.same ∙ ap (λ (i : List Item). fits i (drop k xs)) (sym e) }

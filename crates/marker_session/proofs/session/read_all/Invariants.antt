@@ -6,5 +6,5 @@ use Rattle.marker_session.proofs.session.read_all.Given as goal
 
 abbrev pub invariant-loop : goal.invariant-loop
 invariant-loop g l =
-    ReadFrom (started_with (lent_of l.initial.memory) l.initial.memory.buffer) l.t l.input (lent_of l.memory) l.memory.buffer
+    ReadFrom (started_with (lent_of l.initial.memory) l.initial.buffer) l.t l.input (lent_of l.memory) l.buffer
     × Clocked l.memory.rows
