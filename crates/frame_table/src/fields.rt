@@ -59,6 +59,8 @@ impl Fields {
         }
     }
 
+    // In place at each call: a call by itself would first write all the fields out.
+    #[inline(always)]
     pub fn form(self) -> Form
         ensures { result ≡ form self }
     {
